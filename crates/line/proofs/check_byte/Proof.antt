@@ -1,0 +1,9 @@
+use mathlib.Core.Path.{sym, _∙_, ap}
+use Rattle.line.specs.Laws.{bits-split, remainder-append}
+use Rattle.line.proofs.check_byte.Statement.{statement}
+use Rattle.line.proofs.check_byte.Tie as tie
+
+pub check-byte-spec : {M : Type 1} → statement M
+check-byte-spec =
+    tie.close (tie.spec (λ c κs. tt) (λ c κs. tt)
+    (λ c. c .check-nibble2 .ensures ∙ rw (c .before .check-nibble .ensures, bits-split 4 4, remainder-append)))

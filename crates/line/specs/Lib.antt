@@ -1,0 +1,6 @@
+pub mod Bits
+pub mod LineCode
+pub mod Check
+pub mod Frame
+pub mod Layout
+pub mod Laws
