@@ -86,6 +86,12 @@ bits-written (one {x = b} {xs = s} h t) x =
     let e : (x * 2 + b) % 2 ≡ b = omega arith in
     rw (bits-written t (x * 2 + b)) (ap (λ (m : ℕ). m % 2 ∷ s) q ∙ ap (λ (m : ℕ). m ∷ s) e)
 
+-- only the lowest bits count
+pub bits-mod : (w x : ℕ) → bits w (x % 2 ^ w) ≡ bits w x
+bits-mod w x =
+    let e : written 0 (bits w x) ≡ x % 2 ^ w = written-bits w 0 x ∙ omega arith in
+    rw (bits-length w x, e) at (bits-written (bits-below w x) 0)
+
 -- ---- the check
 
 pub remainder-append : (r : ℕ) (s t : List ℕ) → remainder r (s ++ t) ≡ remainder (remainder r s) t
@@ -144,7 +150,15 @@ code-at (a ∷ b ∷ c ∷ d ∷ s) (suc (suc (suc (suc (suc m))))) h =
     let q : suc (suc (suc (suc (suc m)))) / 5 * 4 + min (m % 5) 3 ≡ suc (suc (suc (suc (m / 5 * 4 + min (m % 5) 3)))) = omega arith in
     rw (r, q) (code-at s m (omega arith))
 
--- a nibble's four bits first
+-- whole nibbles first
+pub code-append : (s t : List ℕ) → length s % 4 ≡ 0 → lineCode (s ++ t) ≡ lineCode s ++ lineCode t
+unfolding lineCode
+code-append [] t h = refl
+code-append (a ∷ []) t h = absurd (omega arith)
+code-append (a ∷ b ∷ []) t h = absurd (omega arith)
+code-append (a ∷ b ∷ c ∷ []) t h = absurd (omega arith)
+code-append (a ∷ b ∷ c ∷ d ∷ s) t h = rw (code-append s t (omega arith))
+
 nibble-below : (n : ℕ) → Below 2 (lineCode (bits 4 n))
 unfolding lineCode bits
 nibble-below n =
@@ -152,10 +166,6 @@ nibble-below n =
     (one {x = n / 4 % 2} (omega arith)
     (one {x = n / 2 % 2} (omega arith)
     (one {x = n / 1 % 2} (omega arith) (one {x = 1 - n / 1 % 2} (omega arith) none))))
-
-pub code-nibble : (n : ℕ) (s : List ℕ) → lineCode (bits 4 n ++ s) ≡ lineCode (bits 4 n) ++ lineCode s
-unfolding lineCode bits
-code-nibble n s = refl
 
 -- the slots of a nibble are the bits of its pattern
 pub pattern-slots : (n : ℕ) → bits 5 (pattern n) ≡ lineCode (bits 4 n)

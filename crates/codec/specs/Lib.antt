@@ -1,0 +1,5 @@
+pub mod Answer
+pub mod Decode
+pub mod Encode
+pub mod RoundTrip
+pub mod View
