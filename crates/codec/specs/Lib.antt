@@ -1,5 +1,5 @@
 pub mod Answer
 pub mod Decode
 pub mod Encode
+pub mod Laws
 pub mod RoundTrip
-pub mod View

@@ -1,9 +1,4 @@
 // Frames to slots and slots to frames, one slot a byte.
-mod decoder;
-mod encoder;
-pub use decoder::decode;
-pub use encoder::encode;
-
 ghost use mathlib.Core.Path.{_≡_};
 ghost use Rattle.codec.specs.Answer as answer;
 

@@ -128,7 +128,7 @@ fn encode_case(s: &[u8]) {
     let mut slots = [0u8; 512];
     let n = read_bytes(word(s, c), &mut data);
     let room = decimal(word(s, e)) as usize % 512;
-    let answer = codec::encode(decimal(word(s, a)), decimal(word(s, b)), part(&data, 0, n), decimal(word(s, d)) == 1, &mut slots[..room]);
+    let answer = encoder::encode(decimal(word(s, a)), decimal(word(s, b)), part(&data, 0, n), decimal(word(s, d)) == 1, &mut slots[..room]);
     match answer {
         Encoded::Refused(r) => say_refused(r),
         Encoded::Slots(k) => say_slots(part(&slots, 0, k)),
@@ -151,7 +151,7 @@ fn decode_case(s: &[u8]) {
     let mut data = [0u8; 80];
     let n = read_slots(word(s, a), &mut slots);
     let room = decimal(word(s, b)) as usize % 80;
-    match codec::decode(part(&slots, 0, n), &mut data[..room]) {
+    match decoder::decode(part(&slots, 0, n), &mut data[..room]) {
         Decoded::Refused(r) => say_refused(r),
         Decoded::Accepted(h) => {
             io::print_decimal(1, h.identifier as u64);
@@ -172,7 +172,7 @@ fn captured_case(s: &[u8]) {
     let mut data = [0u8; 80];
     let mut slots = [0u8; 512];
     let n = read_bytes(word(s, c), &mut data) % 31;
-    let _ = codec::encode(decimal(word(s, a)), decimal(word(s, b)), part(&data, 0, n), true, &mut slots);
+    let _ = encoder::encode(decimal(word(s, a)), decimal(word(s, b)), part(&data, 0, n), true, &mut slots);
     let at = 30 + 10 * n;
     say_bytes(&[nibble(&slots, at) * 16 + nibble(&slots, at + 5), nibble(&slots, at + 10) * 16 + nibble(&slots, at + 15)]);
 }

@@ -20,6 +20,11 @@ use Rattle.line.specs.Frame.{Frame, byteBits, covered, carried, slots, s
 use Rattle.line.specs.Layout.{partOf, inFive, bitOf, codedLevel, levelIn, levelOf}
 use Rattle.line.specs.Check.{checkBit, remainder, check, allOnes, polynomial}
 
+-- ---- rows
+
+pub next : (s : List ℕ) (i : ℕ) → i < length s → drop i s ≡ getD s i 0 ∷ drop (i + 1) s
+next s i h = rw add-one (drop-cons s i 0 h)
+
 -- ---- numbers and bits
 
 pub bits-length : (w x : ℕ) → length (bits w x) ≡ w
@@ -191,7 +196,7 @@ carried-length f = simp (length-append, bits-length, covered-length) (omega arit
 pub bytes-next : (r : ℕ) (s : List ℕ) (i : ℕ) → i < length s →
     remainder r (byteBits (drop i s)) ≡ remainder (remainder r (bits 8 (getD s i 0))) (byteBits (drop (i + 1) s))
 unfolding byteBits
-bytes-next r s i h = rw (add-one, drop-cons s i 0 h) (remainder-append r (bits 8 (getD s i 0)) (byteBits (drop (suc i) s)))
+bytes-next r s i h = rw (next s i h) (remainder-append r (bits 8 (getD s i 0)) (byteBits (drop (i + 1) s)))
 
 pub bytes-end : (r : ℕ) (s : List ℕ) (i : ℕ) → length s ≤ i → remainder r (byteBits (drop i s)) ≡ r
 unfolding byteBits remainder

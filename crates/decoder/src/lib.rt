@@ -1,0 +1,257 @@
+// From slots to a frame, left to right: the first fault is the answer.
+use codec::Decoded;
+use codec::Head;
+use codec::Refusal;
+
+ghost use mathlib.Core.Path.{_≡_};
+ghost use mathlib.Core.List.{[]};
+ghost use Prim.Native.Nat.{_+_, _*_, _/_, _%_, _≤_};
+ghost use lib.ListN.{length, drop};
+ghost use lib.Seq.{sets};
+ghost use Rattle.line.specs.Bits as bits;
+ghost use Rattle.line.specs.Check as check;
+ghost use Rattle.codec.specs.Decode as rule;
+ghost use Rattle.decoder.specs.View as view;
+
+// Where the next part begins, or the fault.
+enum Found {
+    At(usize),
+    Fault(Refusal),
+}
+
+// Whether an acknowledge is present, or the fault.
+enum Seen {
+    Judged(bool),
+    Faulty(Refusal),
+}
+
+// Every slot is 0 or 1.
+fn levels(s: &[u8]) -> bool
+    ensures { λ r. ⌜ r ≡ rule.levels (now (s .entry)) ⌝ }
+{
+    let mut i = 0;
+    while i < s.len() {
+        if 1 < s[i] {
+            return false;
+        }
+        i += 1;
+    }
+    true
+}
+
+// Slots from `at` on that must be as written.
+fn expected(s: &[u8], at: usize, pattern: &[u8], refusal: Refusal) -> Found
+    requires { ⌜ at ≤ length (now s) ⌝ }
+    ensures { λ r. ⌜ view.Follows (now (s .entry)) (at + length (now (pattern .entry))) r (rule.expected refusal (now (pattern .entry)) (drop at (now (s .entry)))) ⌝ }
+{
+    let left = s.len() - at;
+    let mut i = 0;
+    while i < pattern.len() {
+        if left <= i {
+            return Found::Fault(Refusal::CutShort);
+        }
+        if s[at + i] == pattern[i] {
+            i += 1;
+        } else {
+            return Found::Fault(refusal);
+        }
+    }
+    Found::At(at + i)
+}
+
+// Three plain bits behind j whole nibbles. Answers the number of whole nibbles before the end of data.
+fn plain_run(s: &[u8], j: usize) -> Found
+    requires { ⌜ 10 + 5 * j ≤ length (now s) ⌝ }
+    ensures { λ r. ⌜ view.Ends (now (s .entry)) r (rule.plainRun 30 (drop (10 + 5 * j) (now (s .entry))) (view.view (now (s .entry)) 0 (4 * j))) ⌝ }
+{
+    let at = 10 + 5 * j;
+    if s.len() - at < 3 {
+        return Found::Fault(Refusal::CutShort);
+    }
+    pair(s, j)
+}
+
+// A bit and its opposite behind j whole nibbles and three plain bits.
+fn pair(s: &[u8], j: usize) -> Found
+    requires { ⌜ 13 + 5 * j ≤ length (now s) ⌝ }
+    ensures { λ r. ⌜ view.Ends (now (s .entry)) r (rule.pairAt 30 (drop (13 + 5 * j) (now (s .entry))) (view.seenBits (now (s .entry)) j)) ⌝ }
+{
+    let at = 13 + 5 * j;
+    if s.len() - at < 2 {
+        return Found::Fault(Refusal::CutShort);
+    }
+    let a = s[at];
+    let b = s[at + 1];
+    if a == b {
+        if a == 0 {
+            return Found::At(j);
+        }
+        return Found::Fault(Refusal::Pair);
+    }
+    if 67 <= j {
+        return Found::Fault(Refusal::Length);
+    }
+    plain_run(s, j + 1)
+}
+
+// The number that `width` bits from place i on write.
+fn number_at(s: &[u8], i: usize, width: usize) -> u16
+    requires { ⌜ (bits.Below 2 (now s)) × (width ≤ 15) × (10 + (i + width) + (i + width) / 4 ≤ length (now s)) ⌝ }
+    ensures { λ r. ⌜ r ≡ bits.number (view.view (now (s .entry)) i width) ⌝ }
+{
+    let mut x: u16 = 0;
+    let mut k = 0;
+    while k < width {
+        let at = i + k;
+        x = x * 2 + (s[10 + at + at / 4] as u16);
+        k += 1;
+    }
+    x
+}
+
+// The remainder of the first `count` bits.
+fn remainder_of(s: &[u8], count: usize) -> u16
+    requires { ⌜ 10 + count + count / 4 ≤ length (now s) ⌝ }
+    ensures { λ r. ⌜ r ≡ check.remainder check.allOnes (view.view (now (s .entry)) 0 count) ⌝ }
+{
+    let mut r: u16 = 32767;
+    let mut i = 0;
+    while i < count {
+        r = line::check_bit(r, s[10 + i + i / 4]);
+        i += 1;
+    }
+    r
+}
+
+// The last fifteen of the bits of j whole nibbles and three plain bits are the check of those before them.
+fn right(s: &[u8], j: usize) -> bool
+    requires { ⌜ (bits.Below 2 (now s)) × (3 ≤ j) × (15 + 5 * j ≤ length (now s)) ⌝ }
+    ensures { λ r. ⌜ r ≡ rule.right (view.seenBits (now (s .entry)) j) ⌝ }
+{
+    let covered = 4 * j - 12;
+    number_at(s, covered, 15) == 32767 - remainder_of(s, covered)
+}
+
+// An odd number of whole nibbles, 7 to 67.
+fn whole(j: usize) -> bool
+    ensures { λ r. ⌜ r ≡ rule.whole 30 j ⌝ }
+{
+    if j % 2 == 1 {
+        if 7 <= j {
+            return j <= 67;
+        }
+        return false;
+    }
+    false
+}
+
+// The acknowledge slots from `at` on.
+fn acknowledged(s: &[u8], at: usize) -> Seen
+    requires { ⌜ at ≤ length (now s) ⌝ }
+    ensures { λ r. ⌜ view.Sees (now (s .entry)) (at + 2) r (rule.acknowledged (drop at (now (s .entry)))) ⌝ }
+{
+    let left = s.len() - at;
+    if left < 1 {
+        return Seen::Faulty(Refusal::CutShort);
+    }
+    if s[at] == 1 {
+        if left < 2 {
+            return Seen::Faulty(Refusal::CutShort);
+        }
+        return Seen::Judged(s[at + 1] == 0);
+    }
+    Seen::Faulty(Refusal::Acknowledge)
+}
+
+fn head_of(s: &[u8], j: usize, acknowledge: bool) -> Head
+    requires { ⌜ (bits.Below 2 (now s)) × (15 + 5 * j ≤ length (now s)) × (7 ≤ j) × (j ≤ 67) ⌝ }
+    ensures { λ r. ⌜ r ≡ rule.headOf (rule.frameOf (view.seenBits (now (s .entry)) j) acknowledge) ⌝ }
+{
+    let identifier = number_at(s, 0, 12);
+    let command = number_at(s, 12, 4);
+    Head {
+        identifier,
+        command: command as u8,
+        count: ((j - 7) / 2) as u8,
+        acknowledge,
+    }
+}
+
+// What follows the end of data behind j whole nibbles.
+fn closing(s: &[u8], j: usize) -> Decoded
+    requires { ⌜ (bits.Below 2 (now s)) × (15 + 5 * j ≤ length (now s)) × (7 ≤ j) × (j ≤ 67) × (j % 2 ≡ 1) ⌝ }
+    ensures { λ r. ⌜ view.Gives (now (s .entry)) r (rule.closing (view.seenBits (now (s .entry)) j) (drop (15 + 5 * j) (now (s .entry)))) ⌝ }
+{
+    match acknowledged(s, 15 + 5 * j) {
+        Seen::Faulty(r) => Decoded::Refused(r),
+        Seen::Judged(a) => match expected(s, 17 + 5 * j, &[1, 1, 1, 1, 1, 1, 1, 1], Refusal::EndOfFrame) {
+            Found::Fault(r) => Decoded::Refused(r),
+            Found::At(end) => {
+                if end < s.len() {
+                    return Decoded::Refused(Refusal::LeftOver);
+                }
+                Decoded::Accepted(head_of(s, j, a))
+            }
+        },
+    }
+}
+
+// The length, then the check, then what follows.
+fn judged(s: &[u8], j: usize) -> Decoded
+    requires { ⌜ (bits.Below 2 (now s)) × (15 + 5 * j ≤ length (now s)) ⌝ }
+    ensures { λ r. ⌜ view.Gives (now (s .entry)) r (rule.judged 30 (view.seenBits (now (s .entry)) j) (drop (15 + 5 * j) (now (s .entry)))) ⌝ }
+{
+    if whole(j) {
+        if right(s, j) {
+            return closing(s, j);
+        }
+        return Decoded::Refused(Refusal::Check);
+    }
+    Decoded::Refused(Refusal::Length)
+}
+
+fn reading(s: &[u8]) -> Decoded
+    ensures { λ r. ⌜ view.Gives (now (s .entry)) r (rule.reading 30 (now (s .entry))) ⌝ }
+{
+    if levels(s) {
+        match expected(s, 0, &[0, 0, 0, 0, 1, 1, 1, 1, 0, 1], Refusal::Start) {
+            Found::Fault(r) => Decoded::Refused(r),
+            Found::At(_) => match plain_run(s, 0) {
+                Found::Fault(r) => Decoded::Refused(r),
+                Found::At(j) => judged(s, j),
+            },
+        }
+    } else {
+        Decoded::Refused(Refusal::Level)
+    }
+}
+
+// The first n data bytes, into lent room.
+fn fill(s: &[u8], room: &mut [u8], n: usize)
+    requires { ⌜ (bits.Below 2 (now s)) × (60 + 10 * n ≤ length (now s)) × (n ≤ length (now room)) ⌝ }
+    ensures { λ _. ⌜ now (room .exit) ≡ sets (now (room .entry)) 0 (view.bytesAt (now (s .entry)) 16 n) ⌝ }
+{
+    let mut k = 0;
+    while k < n {
+        room[k] = number_at(s, 16 + 8 * k, 8) as u8;
+        k += 1;
+    }
+}
+
+// The frame that the slots are, its data bytes in the lent room; or why they are none.
+pub fn decode(slots: &[u8], room: &mut [u8]) -> Decoded
+    ensures answer { λ r. ⌜ r ≡ rule.decoded (length (now (room .entry))) (rule.reading 30 (now (slots .entry))) ⌝ }
+    ensures room { λ _. ⌜ now (room .exit) ≡ rule.decodedRoom (now (room .entry)) (rule.reading 30 (now (slots .entry))) ⌝ }
+{
+    match reading(slots) {
+        Decoded::Refused(r) => Decoded::Refused(r),
+        Decoded::Accepted(h) => {
+            let n = h.count as usize;
+            if room.len() < n {
+                return Decoded::Refused(Refusal::Room);
+            }
+            fill(slots, room, n);
+            Decoded::Accepted(h)
+        }
+    }
+}
