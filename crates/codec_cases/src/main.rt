@@ -3,6 +3,9 @@ use codec::Decoded;
 use codec::Encoded;
 use codec::Refusal;
 
+ghost use Prim.Native.Nat.{_≤_};
+ghost use lib.ListN.{length};
+
 // The part of s from a to e, or nothing where that is no part of it.
 fn part(s: &[u8], a: usize, e: usize) -> &[u8] {
     if a <= e {
@@ -14,7 +17,9 @@ fn part(s: &[u8], a: usize, e: usize) -> &[u8] {
 }
 
 // The first place from `at` on that holds the byte, or the end.
-fn find(s: &[u8], at: usize, byte: u8) -> usize {
+fn find(s: &[u8], at: usize, byte: u8) -> usize
+    ensures { λ r. ⌜ r ≤ length (now (s .entry)) ⌝ }
+{
     let mut i = at;
     while i < s.len() {
         if s[i] == byte {
@@ -23,6 +28,14 @@ fn find(s: &[u8], at: usize, byte: u8) -> usize {
         i += 1;
     }
     s.len()
+}
+
+// The first n places, or all where there are fewer.
+fn front(s: &mut [u8], n: usize) -> &mut [u8] {
+    if n <= s.len() {
+        return &mut s[..n];
+    }
+    s
 }
 
 // The word that starts at `at`, up to the next blank.
@@ -127,8 +140,8 @@ fn encode_case(s: &[u8]) {
     let mut data = [0u8; 80];
     let mut slots = [0u8; 512];
     let n = read_bytes(word(s, c), &mut data);
-    let room = decimal(word(s, e)) as usize % 512;
-    let answer = encoder::encode(decimal(word(s, a)), decimal(word(s, b)), part(&data, 0, n), decimal(word(s, d)) == 1, &mut slots[..room]);
+    let room = decimal(word(s, e)) as usize;
+    let answer = encoder::encode(decimal(word(s, a)), decimal(word(s, b)), part(&data, 0, n), decimal(word(s, d)) == 1, front(&mut slots, room));
     match answer {
         Encoded::Refused(r) => say_refused(r),
         Encoded::Slots(k) => say_slots(part(&slots, 0, k)),
@@ -150,8 +163,8 @@ fn decode_case(s: &[u8]) {
     let mut slots = [0u8; 512];
     let mut data = [0u8; 80];
     let n = read_slots(word(s, a), &mut slots);
-    let room = decimal(word(s, b)) as usize % 80;
-    match decoder::decode(part(&slots, 0, n), &mut data[..room]) {
+    let room = decimal(word(s, b)) as usize;
+    match decoder::decode(part(&slots, 0, n), front(&mut data, room)) {
         Decoded::Refused(r) => say_refused(r),
         Decoded::Accepted(h) => {
             io::print_decimal(1, h.identifier as u64);
@@ -174,7 +187,7 @@ fn captured_case(s: &[u8]) {
     let n = read_bytes(word(s, c), &mut data) % 31;
     let _ = encoder::encode(decimal(word(s, a)), decimal(word(s, b)), part(&data, 0, n), true, &mut slots);
     let at = 30 + 10 * n;
-    say_bytes(&[nibble(&slots, at) * 16 + nibble(&slots, at + 5), nibble(&slots, at + 10) * 16 + nibble(&slots, at + 15)]);
+    say_bytes(&[byte_at(&slots, at), byte_at(&slots, at + 10)]);
 }
 
 // The number that four slots write.
@@ -183,6 +196,14 @@ fn nibble(s: &[u8], at: usize) -> u8 {
         if 4 <= s.len() - at {
             return s[at] % 2 * 8 + s[at + 1] % 2 * 4 + s[at + 2] % 2 * 2 + s[at + 3] % 2;
         }
+    }
+    0
+}
+
+// The byte that two nibbles from `at` on write.
+fn byte_at(s: &[u8], at: usize) -> u8 {
+    if at < s.len() {
+        return nibble(s, at) % 16 * 16 + nibble(s, at + 5) % 16;
     }
     0
 }
@@ -224,14 +245,22 @@ fn case(s: &[u8]) {
     bytes_case(s);
 }
 
+// Every line.
+fn run(s: &[u8]) {
+    let mut at = 0;
+    while at < s.len() {
+        let e = find(s, at, 10);
+        case(part(s, at, e));
+        io::write_all(1, b"\n");
+        if e < at {
+            return;
+        }
+        at = e + 1;
+    }
+}
+
 fn main() {
     let mut text = [0u8; 131072];
     let n = io::read_full(0, &mut text);
-    let mut at = 0;
-    while at < n {
-        let e = find(&text, at, 10);
-        case(part(&text, at, e));
-        io::write_all(1, b"\n");
-        at = e + 1;
-    }
+    run(part(&text, 0, n));
 }
