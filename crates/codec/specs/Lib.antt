@@ -3,3 +3,4 @@ pub mod Decode
 pub mod Encode
 pub mod Laws
 pub mod RoundTrip
+pub mod Claims

@@ -1,6 +1,8 @@
 // Frames to slots and slots to frames, one slot a byte.
 ghost use mathlib.Core.Path.{_≡_};
+ghost use Prim.Native.Nat.{ℕ};
 ghost use Rattle.codec.specs.Answer as answer;
+ghost use Rattle.codec.specs.Claims as claims;
 
 // Why a frame or a slot sequence is refused.
 pub enum Refusal {
@@ -57,4 +59,10 @@ pub fn number(refusal: Refusal) -> u8
         Refusal::CutShort => 26,
         Refusal::LeftOver => 27,
     }
+}
+
+// Holds the claims on the codec, for every longest length; it does nothing.
+pub fn codec_claims()
+    ensures { λ _. ⌜ ((longest : ℕ) → claims.Codec longest) ⌝ }
+{
 }

@@ -4,3 +4,4 @@ pub mod Check
 pub mod Frame
 pub mod Layout
 pub mod Laws
+pub mod Claims

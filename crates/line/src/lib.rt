@@ -6,6 +6,7 @@ ghost use Rattle.line.specs.LineCode as code;
 ghost use Rattle.line.specs.Check as check;
 ghost use Rattle.line.specs.Frame as frame;
 ghost use Rattle.line.specs.Layout as layout;
+ghost use Rattle.line.specs.Claims as claims;
 
 // The parts of a frame, in their order; After is past its end.
 pub enum Part {
@@ -155,4 +156,16 @@ pub fn half_of(n: u8, k: u16) -> Half
         return Half::Second;
     }
     Half::Plain
+}
+
+// Holds the claims on a frame's layout; it does nothing.
+pub fn layout_claims()
+    ensures { λ _. ⌜ claims.Layout ⌝ }
+{
+}
+
+// Holds the marked cases P1 to P5; it does nothing.
+pub fn marked_cases()
+    ensures { λ _. ⌜ claims.Marked ⌝ }
+{
 }

@@ -1,0 +1,80 @@
+-- What the number reader's answer on a part says of the number at a place.
+use Prim.Native.Nat.{ℕ, suc, _+_, _-_, _<_, _≤_, min}
+use mathlib.Core.List.{List}
+use mathlib.Core.Path.{_≡_, refl, ap, sym, _∙_}
+use native.Mathlib.Omega.{arith}
+use native.Mathlib.Nat.{add-zero, zero-add, sub-zero}
+use lib.Dec.{eqb}
+use lib.ListN.{length, drop, take, length-drop, drop-of-length-le}
+use Rattle.number.specs.Number as numbers
+use Rattle.number.specs.Number.{pick, Read, Refusal, number, groups, restOf, valueOf, faultOf, refusalNumber}
+use Rattle.number.specs.Laws.{rest-fits, is-number, to-end}
+use Rattle.session.specs.declared.Fault.the-variants.{Cut}
+use Rattle.session.specs.declared.Number.{Number}
+use Rattle.session.specs.declared.Number.the-variants.{Value, Bad}
+use Rattle.session.specs.declared.Fault.{Fault}
+use Rattle.session.specs.declared.Event.{Event}
+use Rattle.session.specs.declared.Item.the-variants.{Next, Bad as BadItem}
+use Rattle.session.specs.declared.Outcome.{Outcome}
+use Rattle.session.specs.declared.Outcome.the-variants.{Broken}
+use Rattle.session.specs.Reading.{refusal, placed, numberAt, eventAt, endAt, Events, eventsAt, ended, outcome}
+use Rattle.session.specs.Walk.{none-due, stops, goes-on}
+
+pub past-end : (s : List ℕ) (at : ℕ) → length s ≤ at → Bad Cut (length s) ≡ numberAt s at
+unfolding numberAt placed number groups refusal
+past-end s at h = let e : min at (length s) ≡ length s = omega arith in rw (drop-of-length-le s h, e)
+
+-- the refusal of a number
+abbrev pub named : ℕ → Refusal
+named n = pick (eqb n 30) numbers.Cut (pick (eqb n 31) numbers.NotShortest numbers.TooLarge)
+
+named-is : (f : Refusal) → f ≡ named (refusalNumber f)
+unfolding refusalNumber
+named-is numbers.Cut = refl
+named-is numbers.NotShortest = refl
+named-is numbers.TooLarge = refl
+
+is-refused : (r : Read) → (faultOf r ≡ 0 → ⊥) → r ≡ numbers.Refused (named (faultOf r))
+unfolding faultOf
+is-refused (numbers.Number v rest) h = absurd (h refl)
+is-refused (numbers.Refused f) h = ap numbers.Refused (named-is f)
+
+-- the reader's answer on the part that begins at the place: the rest t, the value v, the fault f
+module _ (s : List ℕ) (at : ℕ) (h : at < length s) {t : List ℕ} {v f : ℕ}
+    (a : (t ≡ restOf (number (take (length s - at) (drop at s)))) × ((v ≡ valueOf (number (take (length s - at) (drop at s)))) × (f ≡ faultOf (number (take (length s - at) (drop at s)))))) where
+  pub rest-within : length t ≤ length s
+  rest-within = rw (a .0, to-end at s) (let k = rest-fits (drop at s) in let l = length-drop at s in omega arith)
+
+  pub found : f ≡ 0 → Value v (length s - length t) ≡ numberAt s at
+  unfolding numberAt placed
+  found z = let e = is-number (number (drop at s)) (rw (to-end at s) at (sym (a .1 .1) ∙ z)) in rw (e, a .0, a .1 .0, to-end at s)
+
+  pub refused : {g : Refusal} → named f ≡ g → (f ≡ 0 → ⊥) → Bad (refusal g) at ≡ numberAt s at
+  unfolding numberAt placed
+  refused n z =
+      let e : f ≡ faultOf (number (drop at s)) = rw (to-end at s) at (a .1 .1) in
+      let m : min at (length s) ≡ at = omega arith in
+      rw (is-refused (number (drop at s)) (λ (q : faultOf (number (drop at s)) ≡ 0). z (e ∙ q)), m, ← n, e)
+
+-- the outcome where n events were read before these
+abbrev pub after : ℕ → Events → Outcome
+after n r = ended (n + length (r .events)) (r .end)
+
+module _ (s : List ℕ) (count n at : ℕ) where
+  pub first-due : n ≡ 0 → outcome (eventsAt count s at) ≡ after n (eventsAt (count - n) s at)
+  unfolding outcome
+  first-due z = rw (z, sub-zero, zero-add)
+
+  pub stopped : {f : Fault} {p : ℕ} → n < count → eventAt s at ≡ BadItem f p → after n (eventsAt (count - n) s at) ≡ Broken n f p
+  unfolding ended
+  stopped h e = let d : count - n ≡ suc (count - (n + 1)) = omega arith in rw (d, stops s at (count - (n + 1)) e, add-zero)
+
+  pub went-on : {e : Event} {next : ℕ} → n < count → eventAt s at ≡ Next e next
+      → after n (eventsAt (count - n) s at) ≡ after (n + 1) (eventsAt (count - (n + 1)) s next)
+  went-on {next = next} h e =
+      let d : count - n ≡ suc (count - (n + 1)) = omega arith in
+      let l : n + suc (length ((eventsAt (count - (n + 1)) s next) .events)) ≡ n + 1 + length ((eventsAt (count - (n + 1)) s next) .events) = omega arith in
+      rw (d, goes-on s at (count - (n + 1)) e, l)
+
+  pub all-read : count ≤ n → after n (eventsAt (count - n) s at) ≡ ended n (endAt s at)
+  all-read h = let d : count - n ≡ 0 = omega arith in rw (d, none-due s at, add-zero)
