@@ -23,9 +23,9 @@ same-frame e = cc
 
 pub codec : (longest : ℕ) → Codec longest
 codec longest =
-    record
-    { exact = λ s f. (read-is longest s f, λ p. ap (reading longest) (p .1) ∙ slots-read longest f (p .0))
-    ; decoded = slots-read longest
-    ; encoded = λ s f e. sym (read-is longest s f e .1)
-    ; one = λ f g p q e. same-frame (sym (slots-read longest f p) ∙ ap (reading longest) e ∙ slots-read longest g q)
+    record {
+      exact = λ s f. (read-is longest s f, λ p. ap (reading longest) (p .1) ∙ slots-read longest f (p .0));
+      decoded = slots-read longest;
+      encoded = λ s f e. sym (read-is longest s f e .1);
+      one = λ f g p q e. same-frame (sym (slots-read longest f p) ∙ ap (reading longest) e ∙ slots-read longest g q);
     }

@@ -87,11 +87,11 @@ bytesOf (suc n) bs = number (take 8 bs) ∷ bytesOf n (drop 8 bs)
 -- 12 bits of identifier, 4 of command, 8 for each data byte, 15 of check
 unfoldable pub frameOf : List ℕ → Bool → Frame
 frameOf bs a =
-    record
-    { identifier = number (take 12 bs)
-    ; command = number (take 4 (drop 12 bs))
-    ; bytes = bytesOf ((length bs - 31) / 8) (drop 16 bs)
-    ; acknowledge = a
+    record {
+      identifier = number (take 12 bs);
+      command = number (take 4 (drop 12 bs));
+      bytes = bytesOf ((length bs - 31) / 8) (drop 16 bs);
+      acknowledge = a;
     }
 
 unfoldable pub ended : Frame → List ℕ → Reading
@@ -115,11 +115,11 @@ reading longest s =
 
 unfoldable pub headOf : Frame → Head
 headOf f =
-    record
-    { identifier = f .identifier
-    ; command = f .command
-    ; count = length (f .bytes)
-    ; acknowledge = f .acknowledge
+    record {
+      identifier = f .identifier;
+      command = f .command;
+      count = length (f .bytes);
+      acknowledge = f .acknowledge;
     }
 
 -- "then 13 if the room lent for data is under n"

@@ -162,13 +162,15 @@ module _ (longest : ℕ) (f : Frame) (fits : Fits longest f) where
   pub slots-read : reading longest (slots f) ≡ frame f
   unfolding reading judged closing slots endOfData after ended most
   slots-read =
-      rw (levels-below (slots-below f)
-        , expected-self Start start (lineCode (carried f) ++ (endOfData ++ (acknowledgeSlots (f .acknowledge) ++ endOfFrame)))
-        , coded-back longest [] (carried f) (acknowledgeSlots (f .acknowledge) ++ endOfFrame) (omega (arith, carried-length f)) refl (omega (arith, carried-length f, fits .size))
-        , whole-back
-        , right-back f
-        , acknowledge-back (f .acknowledge) endOfFrame
-        , end-back)
+      rw (
+        levels-below (slots-below f),
+        expected-self Start start (lineCode (carried f) ++ (endOfData ++ (acknowledgeSlots (f .acknowledge) ++ endOfFrame))),
+        coded-back longest [] (carried f) (acknowledgeSlots (f .acknowledge) ++ endOfFrame) (omega (arith, carried-length f)) refl (omega (arith, carried-length f, fits .size)),
+        whole-back,
+        right-back f,
+        acknowledge-back (f .acknowledge) endOfFrame,
+        end-back,
+      )
       (ap frame frame-back)
 
 -- ---- what is read as a frame is that frame's slots
@@ -222,6 +224,7 @@ coded-is longest (a ∷ b ∷ c ∷ x ∷ y ∷ s) acc bs t (one ha (one hb (one
   where
     r : Read (List ℕ)
     r = plainRun longest s ((acc ++ (a ∷ b ∷ c ∷ [])) ++ (x ∷ []))
+
     go : (p : Bool) → eqb x y ≡ p → (z : Bool) → eqb x 0 ≡ z → (m : Bool)
         → pick p (pick z (read (acc ++ (a ∷ b ∷ c ∷ [])) s) (fault Pair)) (pick m (fault Length) r) ≡ read bs t
         → (r ≡ read bs t → Coded ((acc ++ (a ∷ b ∷ c ∷ [])) ++ (x ∷ [])) bs s t)
@@ -229,12 +232,12 @@ coded-is longest (a ∷ b ∷ c ∷ x ∷ y ∷ s) acc bs t (one ha (one hb (one
     go true p true z m e rest =
         let u = eqb-true x y p in
         let v = eqb-true x 0 z in
-        record
-        { new = a ∷ b ∷ c ∷ []
-        ; bits-are = cc
-        ; slots-are = cc
-        ; long = refl
-        ; below = one ha (one hb (one hc none))
+        record {
+          new = a ∷ b ∷ c ∷ [];
+          bits-are = cc;
+          slots-are = cc;
+          long = refl;
+          below = one ha (one hb (one hc none));
         }
     go true p false z m e rest = absurd (fault-read e)
     go false p z h true e rest = absurd (fault-read e)
@@ -243,12 +246,12 @@ coded-is longest (a ∷ b ∷ c ∷ x ∷ y ∷ s) acc bs t (one ha (one hb (one
         let d = eqb-false x y p in
         let y-is : y ≡ 1 - x = omega arith in
         let s-is = k .slots-are in
-        record
-        { new = a ∷ b ∷ c ∷ x ∷ k .new
-        ; bits-are = k .bits-are ∙ snoc4 acc a b c x (k .new)
-        ; slots-are = cc
-        ; long = omega (arith, k .long)
-        ; below = one ha (one hb (one hc (one hx (k .below))))
+        record {
+          new = a ∷ b ∷ c ∷ x ∷ k .new;
+          bits-are = k .bits-are ∙ snoc4 acc a b c x (k .new);
+          slots-are = cc;
+          long = omega (arith, k .long);
+          below = one ha (one hb (one hc (one hx (k .below))));
         }
 
 acknowledged-is : (s : List ℕ) (a : Bool) (t : List ℕ) → Below 2 s → acknowledged s ≡ read a t → s ≡ acknowledgeSlots a ++ t
@@ -333,11 +336,11 @@ module _ (bs : List ℕ) (n : ℕ) (l : Below 2 bs) (long : length bs ≡ 31 + 8
       let d′ = length-drop 16 bs in
       let i = number-lt 12 (take 12 bs) (below-take 12 l) (length-take-le 12 bs (omega arith)) in
       let c = number-lt 4 (take 4 (drop 12 bs)) (below-take 4 (below-drop 12 l)) (length-take-le 4 (drop 12 bs) (omega arith)) in
-      record
-      { identifier = omega arith
-      ; command = omega arith
-      ; size = rw (count-is, bytes-long n (drop 16 bs)) h
-      ; bytes = rw count-is (bytes-are-below n (drop 16 bs) (below-drop 16 l) (omega arith))
+      record {
+        identifier = omega arith;
+        command = omega arith;
+        size = rw (count-is, bytes-long n (drop 16 bs)) h;
+        bytes = rw count-is (bytes-are-below n (drop 16 bs) (below-drop 16 l) (omega arith));
       }
 
 pub both : (t : Bool) (y : Bool) → pick t y false ≡ true → (t ≡ true) × (y ≡ true)

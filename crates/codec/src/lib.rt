@@ -64,5 +64,4 @@ pub fn number(refusal: Refusal) -> u8
 // Holds the claims on the codec, for every longest length; it does nothing.
 pub fn codec_claims()
     ensures { λ _. ⌜ ((longest : ℕ) → claims.Codec longest) ⌝ }
-{
-}
+{}

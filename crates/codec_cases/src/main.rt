@@ -2,7 +2,6 @@
 use codec::Decoded;
 use codec::Encoded;
 use codec::Refusal;
-
 ghost use Prim.Native.Nat.{_≤_};
 ghost use lib.ListN.{length};
 
@@ -141,7 +140,13 @@ fn encode_case(s: &[u8]) {
     let mut slots = [0u8; 512];
     let n = read_bytes(word(s, c), &mut data);
     let room = decimal(word(s, e)) as usize;
-    let answer = encoder::encode(decimal(word(s, a)), decimal(word(s, b)), part(&data, 0, n), decimal(word(s, d)) == 1, front(&mut slots, room));
+    let answer = encoder::encode(
+        decimal(word(s, a)),
+        decimal(word(s, b)),
+        part(&data, 0, n),
+        decimal(word(s, d)) == 1,
+        front(&mut slots, room),
+    );
     match answer {
         Encoded::Refused(r) => say_refused(r),
         Encoded::Slots(k) => say_slots(part(&slots, 0, k)),
@@ -185,7 +190,13 @@ fn captured_case(s: &[u8]) {
     let mut data = [0u8; 80];
     let mut slots = [0u8; 512];
     let n = read_bytes(word(s, c), &mut data) % 31;
-    let _ = encoder::encode(decimal(word(s, a)), decimal(word(s, b)), part(&data, 0, n), true, &mut slots);
+    let _ = encoder::encode(
+        decimal(word(s, a)),
+        decimal(word(s, b)),
+        part(&data, 0, n),
+        true,
+        &mut slots,
+    );
     let at = 30 + 10 * n;
     say_bytes(&[byte_at(&slots, at), byte_at(&slots, at + 10)]);
 }

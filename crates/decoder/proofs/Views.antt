@@ -170,8 +170,8 @@ module _ (s : List ℕ) (j : ℕ) where
   pub pair-on : 15 + 5 * j ≤ length s →
       pairAt 30 (drop (13 + 5 * j) s) (seenBits s j)
       ≡ pick (eqb (getD s (13 + 5 * j) 0) (getD s (13 + 5 * j + 1) 0))
-        (pick (eqb (getD s (13 + 5 * j) 0) 0) (read (seenBits s j) (drop (15 + 5 * j) s)) (fault Pair))
-        (pick (leb 67 j) (fault Length) (plainRun 30 (drop (10 + 5 * (j + 1)) s) (view s 0 (4 * (j + 1)))))
+      (pick (eqb (getD s (13 + 5 * j) 0) 0) (read (seenBits s j) (drop (15 + 5 * j) s)) (fault Pair))
+      (pick (leb 67 j) (fault Length) (plainRun 30 (drop (10 + 5 * (j + 1)) s) (view s 0 (4 * (j + 1)))))
   unfolding plainRun most
   pair-on h =
       let n : 10 + 5 * (j + 1) ≡ 15 + 5 * j = omega arith in

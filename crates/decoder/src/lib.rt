@@ -2,7 +2,6 @@
 use codec::Decoded;
 use codec::Head;
 use codec::Refusal;
-
 ghost use mathlib.Core.Path.{_≡_};
 ghost use mathlib.Core.List.{[]};
 ghost use Prim.Native.Nat.{_+_, _*_, _/_, _%_, _≤_};
@@ -184,7 +183,12 @@ fn closing(s: &[u8], j: usize) -> Decoded
 {
     match acknowledged(s, 15 + 5 * j) {
         Seen::Faulty(r) => Decoded::Refused(r),
-        Seen::Judged(a) => match expected(s, 17 + 5 * j, &[1, 1, 1, 1, 1, 1, 1, 1], Refusal::EndOfFrame) {
+        Seen::Judged(a) => match expected(
+            s,
+            17 + 5 * j,
+            &[1, 1, 1, 1, 1, 1, 1, 1],
+            Refusal::EndOfFrame,
+        ) {
             Found::Fault(r) => Decoded::Refused(r),
             Found::At(end) => {
                 if end < s.len() {

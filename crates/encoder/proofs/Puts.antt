@@ -126,8 +126,8 @@ unfolding check allOnes
 check-bits i c bs h =
     ap (λ (r : ℕ). 32767 - r)
     (ap (λ (l : List ℕ). remainder 32767 l) (sym (append-assoc (bits 12 i) (bits 4 c) (byteBits bs)) ∙ ap (λ (l : List ℕ). l ++ byteBits bs) (sym (header-bits i c h)))
-      ∙ remainder-append 32767 (bits 8 (i / 16) ++ bits 8 (i % 16 * 16 + c)) (byteBits bs)
-      ∙ ap (λ (r : ℕ). remainder r (byteBits bs)) (remainder-append 32767 (bits 8 (i / 16)) (bits 8 (i % 16 * 16 + c))))
+    ∙ remainder-append 32767 (bits 8 (i / 16) ++ bits 8 (i % 16 * 16 + c)) (byteBits bs)
+    ∙ ap (λ (r : ℕ). remainder r (byteBits bs)) (remainder-append 32767 (bits 8 (i / 16)) (bits 8 (i % 16 * 16 + c))))
 
 -- ---- the whole frame
 
@@ -141,7 +141,7 @@ carried-code i c bs a =
     let l = covered-length (given i c bs a) in
     code-append (covered (given i c bs a)) (bits 15 (check (covered (given i c bs a)))) (omega arith)
     ∙ ap (λ (s : List ℕ). s ++ lineCode (bits 15 (check (covered (given i c bs a)))))
-        (ap lineCode (sym (append-assoc (bits 12 i) (bits 4 c) (byteBits bs))) ∙ code-append (bits 12 i ++ bits 4 c) (byteBits bs) (simp (length-append, bits-length)))
+    (ap lineCode (sym (append-assoc (bits 12 i) (bits 4 c) (byteBits bs))) ∙ code-append (bits 12 i ++ bits 4 c) (byteBits bs) (simp (length-append, bits-length)))
 
 header-long : (i c : ℕ) → length (header i c) ≡ 20
 header-long i c = code-length (bits 12 i ++ bits 4 c) ∙ simp (length-append, bits-length)
@@ -177,6 +177,6 @@ whole-frame r₀ r₁ r₂ r₃ r₄ r₅ i c bs a n e p q r s t =
     let y = joined r₀ r₂ r₃ 0 30 (start ++ header i c) (lineCode (byteBits bs)) x r (omega arith) in
     let z = joined r₀ r₃ r₄ 0 (30 + n) ((start ++ header i c) ++ lineCode (byteBits bs)) (lineCode (bits 15 k)) y s (omega arith) in
     let g : (((start ++ header i c) ++ lineCode (byteBits bs)) ++ lineCode (bits 15 k)) ++ (endOfData ++ (acknowledgeSlots a ++ endOfFrame)) ≡ slots (given i c bs a) =
-      rw (carried-code i c bs a) (simp append-assoc) in
+    rw (carried-code i c bs a) (simp append-assoc) in
     joined r₀ r₄ r₅ 0 (48 + n) (((start ++ header i c) ++ lineCode (byteBits bs)) ++ lineCode (bits 15 k)) (endOfData ++ (acknowledgeSlots a ++ endOfFrame)) z t (omega arith)
     ∙ ap (λ (l : List ℕ). sets r₀ 0 l) g

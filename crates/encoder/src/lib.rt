@@ -1,7 +1,6 @@
 // From a frame to its slots, by the table of five-slot patterns.
 use codec::Encoded;
 use codec::Refusal;
-
 ghost use mathlib.Core.Path.{_≡_};
 ghost use mathlib.Core.List.{_++_};
 ghost use Prim.Native.Nat.{_+_, _*_, _≤_, _<_};
@@ -117,7 +116,13 @@ fn put_frame(room: &mut [u8], identifier: u16, command: u8, bytes: &[u8], acknow
 }
 
 // The frame's slots, into lent room; or why there are none.
-pub fn encode(identifier: u32, command: u32, bytes: &[u8], acknowledge: bool, room: &mut [u8]) -> Encoded
+pub fn encode(
+    identifier: u32,
+    command: u32,
+    bytes: &[u8],
+    acknowledge: bool,
+    room: &mut [u8],
+) -> Encoded
     ensures answer { λ r. ⌜ r ≡ rule.encoded 30 (length (now (room .entry))) (rule.given identifier command (now (bytes .entry)) acknowledge) ⌝ }
     ensures room { λ r. ⌜ now (room .exit) ≡ rule.encodedRoom (now (room .entry)) (rule.given identifier command (now (bytes .entry)) acknowledge) r ⌝ }
 {

@@ -30,10 +30,10 @@ pub record Marked : Type 0 where
 pub marked : Marked
 unfolding lineCode bits size
 marked =
-    record
-    { p1 = refl
-    ; p2 = refl
-    ; p3 = refl
-    ; p4 = λ f e. slots-length f ∙ ap size e
-    ; p5 = λ f e. slots-length f ∙ ap size e
+    record {
+      p1 = refl;
+      p2 = refl;
+      p3 = refl;
+      p4 = λ f e. slots-length f ∙ ap size e;
+      p5 = λ f e. slots-length f ∙ ap size e;
     }

@@ -161,11 +161,9 @@ pub fn half_of(n: u8, k: u16) -> Half
 // Holds the claims on a frame's layout; it does nothing.
 pub fn layout_claims()
     ensures { λ _. ⌜ claims.Layout ⌝ }
-{
-}
+{}
 
 // Holds the marked cases P1 to P5; it does nothing.
 pub fn marked_cases()
     ensures { λ _. ⌜ claims.Marked ⌝ }
-{
-}
+{}

@@ -23,17 +23,17 @@ closing-spec =
     (λ c. search needs)
     (λ c. search needs)
     (λ c. let x = c .before .before .before .before .before .before .before .before .before .before .before .args in
-      let seen = rw (c .before .before .before .before .before .before .before .a .given .1) at (c .before .before .before .before .before .before .before .before .before .acknowledged .ensures) in
-      let ends = rw (c .before .before .end .given .1) at (c .before .before .before .before .expected .ensures) in
-      goes-on (seenBits (x .s .now) (x .j)) (x .s .now) (x .j) _ seen _ ends (c .if1 .taken))
+    let seen = rw (c .before .before .before .before .before .before .before .a .given .1) at (c .before .before .before .before .before .before .before .before .before .acknowledged .ensures) in
+    let ends = rw (c .before .before .end .given .1) at (c .before .before .before .before .expected .ensures) in
+    goes-on (seenBits (x .s .now) (x .j)) (x .s .now) (x .j) _ seen _ ends (c .if1 .taken))
     (λ c κs. (c .before .before .before .before .before .before .before .before .before .before .before .pre .0, omega arith, omega arith, omega arith))
     (λ c. let x = c .before .before .before .before .before .args in
-      not-seen (seenBits (x .s .now) (x .j)) (x .s .now) (x .j) _ (rw (c .before .r .given .1) at (c .before .before .before .acknowledged .ensures)))
+    not-seen (seenBits (x .s .now) (x .j)) (x .s .now) (x .j) _ (rw (c .before .r .given .1) at (c .before .before .before .acknowledged .ensures)))
     (λ c. let x = c .before .before .before .before .before .before .before .before .before .before .args in
-      let seen = rw (c .before .before .before .before .before .before .a .given .1) at (c .before .before .before .before .before .before .before .before .acknowledged .ensures) in
-      not-ended (seenBits (x .s .now) (x .j)) (x .s .now) (x .j) _ seen _ (rw (c .before .r2 .given .1) at (c .before .before .before .expected .ensures)))
+    let seen = rw (c .before .before .before .before .before .before .a .given .1) at (c .before .before .before .before .before .before .before .before .acknowledged .ensures) in
+    not-ended (seenBits (x .s .now) (x .j)) (x .s .now) (x .j) _ seen _ (rw (c .before .r2 .given .1) at (c .before .before .before .expected .ensures)))
     (λ c. let x = c .before .before .before .before .before .before .before .before .before .before .before .before .args in
-      let seen = rw (c .before .before .before .before .before .before .before .before .a .given .1) at (c .before .before .before .before .before .before .before .before .before .before .acknowledged .ensures) in
-      let ends = rw (c .before .before .before .end .given .1) at (c .before .before .before .before .before .expected .ensures) in
-      gives (x .s .now) (x .j) _ _ _ (omega arith) (omega arith) (omega arith) (c .before .before .before .before .before .before .before .before .before .before .before .before .pre .0) (c .head-of .ensures)
-      (is-whole (seenBits (x .s .now) (x .j)) (x .s .now) (x .j) _ seen _ ends (c .before .if1 .left))))
+    let seen = rw (c .before .before .before .before .before .before .before .before .a .given .1) at (c .before .before .before .before .before .before .before .before .before .before .acknowledged .ensures) in
+    let ends = rw (c .before .before .before .end .given .1) at (c .before .before .before .before .before .expected .ensures) in
+    gives (x .s .now) (x .j) _ _ _ (omega arith) (omega arith) (omega arith) (c .before .before .before .before .before .before .before .before .before .before .before .before .pre .0) (c .head-of .ensures)
+    (is-whole (seenBits (x .s .now) (x .j)) (x .s .now) (x .j) _ seen _ ends (c .before .if1 .left))))

@@ -26,8 +26,8 @@ number-at-spec =
     (λ c. omega arith)
     (λ c. let at = c .before .before .before .args .i + c .before .before .loop .k in omega (arith, slot-below (c .before .before .before .pre .0) (10 + at + at / 4)))
     (λ c. let at = c .before .before .before .args .i + c .before .before .loop .k in
-      let small = number-small (c .before .before .before .pre .0) (c .before .before .before .args .i) (c .before .before .loop .k) 14 (omega arith) in
-      omega (arith, c .before .before .loop .inv .1, slot-below (c .before .before .before .pre .0) (10 + at + at / 4)))
+    let small = number-small (c .before .before .before .pre .0) (c .before .before .before .args .i) (c .before .before .loop .k) 14 (omega arith) in
+    omega (arith, c .before .before .loop .inv .1, slot-below (c .before .before .before .pre .0) (10 + at + at / 4)))
     (λ c. omega arith)
     (λ c. omega arith)
     (λ c. (omega arith, rw (number-next, c .before .before .loop .inv .1)))

@@ -23,9 +23,9 @@ reading-spec =
     (λ c κs. (below-levels _ (sym (c .before .before .before .before .before .before .before .before .before .levels .ensures) ∙ c .before .before .before .before .before .before .before .before .if1 .taken), (rw (c .before .j .given .1) at (c .before .before .before .plain-run .ensures)) .0))
     (λ c. bad-start _ (sym (c .before .before .before .before .before .before .levels .ensures) ∙ c .before .before .before .before .before .if1 .taken) _ (rw (c .before .r .given .1) at (c .before .before .before .expected .ensures)))
     (λ c. let l = sym (c .before .before .before .before .before .before .before .before .before .levels .ensures) ∙ c .before .before .before .before .before .before .before .before .if1 .taken in
-      let b = begun (c .before .before .before .before .before .before .before .before .before .before .before .args .s .now) _ _ (rw (c .before .before .before .before .enum-told .given .1) at (c .before .before .before .before .before .before .expected .ensures)) in
-      bad-code _ l b _ (rw (c .before .r2 .given .1) at (c .before .before .before .plain-run .ensures)))
+    let b = begun (c .before .before .before .before .before .before .before .before .before .before .before .args .s .now) _ _ (rw (c .before .before .before .before .enum-told .given .1) at (c .before .before .before .before .before .before .expected .ensures)) in
+    bad-code _ l b _ (rw (c .before .r2 .given .1) at (c .before .before .before .plain-run .ensures)))
     (λ c. let l = sym (c .before .before .before .before .before .before .before .before .before .before .levels .ensures) ∙ c .before .before .before .before .before .before .before .before .before .if1 .taken in
-      let b = begun (c .before .before .before .before .before .before .before .before .before .before .before .before .args .s .now) _ _ (rw (c .before .before .before .before .before .enum-told .given .1) at (c .before .before .before .before .before .before .before .expected .ensures)) in
-      rw (coded _ l b _ _ ((rw (c .before .before .j .given .1) at (c .before .before .before .before .plain-run .ensures)) .1)) (c .judged .ensures))
+    let b = begun (c .before .before .before .before .before .before .before .before .before .before .before .before .args .s .now) _ _ (rw (c .before .before .before .before .before .enum-told .given .1) at (c .before .before .before .before .before .before .before .expected .ensures)) in
+    rw (coded _ l b _ _ ((rw (c .before .before .j .given .1) at (c .before .before .before .before .plain-run .ensures)) .1)) (c .judged .ensures))
     (λ c. bad-level _ (sym (c .before .levels .ensures) ∙ c .if1 .left)))

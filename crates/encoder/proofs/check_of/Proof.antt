@@ -19,9 +19,9 @@ check-of-spec =
     (λ c κs. tt)
     (λ c κs. tt)
     (λ c. let x = c .before .before .before .before .args in
-      let high : c .before .before .check-byte .result < 2 ^ 15 = rw (c .before .before .check-byte .ensures) (remainder-below 32767 (bits 8 (x .identifier / 16)) (omega arith)) in
-      let low : c .before .check-byte2 .result < 2 ^ 15 = rw (c .before .check-byte2 .ensures) (remainder-below _ (bits 8 (x .identifier % 16 * 16 + x .command)) high) in
-      let all = remainder-below _ (byteBits (x .bytes .now)) low in
-      omega (arith, c .check-bytes .ensures))
+    let high : c .before .before .check-byte .result < 2 ^ 15 = rw (c .before .before .check-byte .ensures) (remainder-below 32767 (bits 8 (x .identifier / 16)) (omega arith)) in
+    let low : c .before .check-byte2 .result < 2 ^ 15 = rw (c .before .check-byte2 .ensures) (remainder-below _ (bits 8 (x .identifier % 16 * 16 + x .command)) high) in
+    let all = remainder-below _ (byteBits (x .bytes .now)) low in
+    omega (arith, c .check-bytes .ensures))
     (λ c. let x = c .before .before .before .before .args in
-      sym (check-bits (x .identifier) (x .command) (x .bytes .now) (omega arith) ∙ simp (← (c .check-bytes .ensures), ← (c .before .check-byte2 .ensures), ← (c .before .before .check-byte .ensures)))))
+    sym (check-bits (x .identifier) (x .command) (x .bytes .now) (omega arith) ∙ simp (← (c .check-bytes .ensures), ← (c .before .check-byte2 .ensures), ← (c .before .before .check-byte .ensures)))))

@@ -26,6 +26,7 @@ encode-spec =
     (λ c κs. omega arith)
     (λ c. search needs)
     (λ c. let x = c .before .before .before .before .before .before .before .before .before .before .args in
-      let f = given (x .identifier) (x .command) (x .bytes .now) (x .acknowledge) in
-      (simp (le-ltb _ _ (c .before .before .before .before .before .before .before .if1 .left), le-ltb _ _ (c .before .before .before .before .before .before .if2 .left), le-ltb _ _ (c .before .before .before .before .before .if3 .left), le-ltb _ _ (c .before .before .before .before .if4 .left))
-        , c .before .before .put-frame .ensures ∙ laid-sets (x .room .now) (slots f) (omega (arith, slots-length f)))))
+    let f = given (x .identifier) (x .command) (x .bytes .now) (x .acknowledge) in (
+      simp (le-ltb _ _ (c .before .before .before .before .before .before .before .if1 .left), le-ltb _ _ (c .before .before .before .before .before .before .if2 .left), le-ltb _ _ (c .before .before .before .before .before .if3 .left), le-ltb _ _ (c .before .before .before .before .if4 .left)),
+      c .before .before .put-frame .ensures ∙ laid-sets (x .room .now) (slots f) (omega (arith, slots-length f)),
+    )))

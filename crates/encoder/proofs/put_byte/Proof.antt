@@ -14,5 +14,5 @@ put-byte-spec =
     (λ c κs. omega arith)
     (λ c. search needs)
     (λ c. let x = c .before .before .before .before .before .before .before .before .before .args in
-      let l = five-length (x .byte / 16) in
-      rw byte-code (joined _ _ _ (x .at) (x .at + 5) (five (x .byte / 16)) (five (x .byte % 16)) (c .before .before .before .before .before .before .put-nibble .ensures) (c .before .before .put-nibble2 .ensures) (omega arith))))
+    let l = five-length (x .byte / 16) in
+    rw byte-code (joined _ _ _ (x .at) (x .at + 5) (five (x .byte / 16)) (five (x .byte % 16)) (c .before .before .before .before .before .before .put-nibble .ensures) (c .before .before .put-nibble2 .ensures) (omega arith))))

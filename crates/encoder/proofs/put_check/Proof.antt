@@ -30,9 +30,9 @@ put-check-spec =
     (λ c. simp length-set (omega arith))
     (λ c. simp length-set (search needs))
     (λ c. let x = c .before .before .before .before .before .before .before .before .before .before .before .before .before .args in
-      let k = x .check in
-      let l = three-long (k / 2048) (k / 128 % 16) (k / 8 % 16) in
-      rw check-code
-      (joined _ _ _ (x .at) (x .at + 15) ((five (k / 2048) ++ five (k / 128 % 16)) ++ five (k / 8 % 16)) ((k / 4 % 2) ∷ (k / 2 % 2) ∷ (k % 2) ∷ [])
-        (three-nibbles _ _ _ _ (x .at) (x .at + 5) (x .at + 10) (k / 2048) (k / 128 % 16) (k / 8 % 16) (c .before .before .before .before .before .before .before .before .before .before .put-nibble .ensures) (c .before .before .before .before .before .before .put-nibble2 .ensures) (c .before .before .put-nibble3 .ensures) refl refl)
-        (put-three (c .before .before .put-nibble3 .last .0) (x .at) (k / 4 % 2) (k / 2 % 2) (k % 2)) (omega arith))))
+    let k = x .check in
+    let l = three-long (k / 2048) (k / 128 % 16) (k / 8 % 16) in
+    rw check-code
+    (joined _ _ _ (x .at) (x .at + 15) ((five (k / 2048) ++ five (k / 128 % 16)) ++ five (k / 8 % 16)) ((k / 4 % 2) ∷ (k / 2 % 2) ∷ (k % 2) ∷ [])
+    (three-nibbles _ _ _ _ (x .at) (x .at + 5) (x .at + 10) (k / 2048) (k / 128 % 16) (k / 8 % 16) (c .before .before .before .before .before .before .before .before .before .before .put-nibble .ensures) (c .before .before .before .before .before .before .put-nibble2 .ensures) (c .before .before .put-nibble3 .ensures) refl refl)
+    (put-three (c .before .before .put-nibble3 .last .0) (x .at) (k / 4 % 2) (k / 2 % 2) (k % 2)) (omega arith))))

@@ -25,5 +25,5 @@ put-frame-spec =
     (λ c κs. omega arith)
     (λ c. search needs)
     (λ c. let x = c .before .before .before .before .before .before .before .before .before .before .before .before .before .before .before .before .before .before .before .before .before .before .before .before .args in
-      whole-frame _ _ _ _ _ _ (x .identifier) (x .command) (x .bytes .now) (x .acknowledge) (10 * length (x .bytes .now)) refl
-      (c .before .before .before .before .before .before .before .before .before .before .before .before .before .before .before .before .before .before .before .put .ensures) (c .before .before .before .before .before .before .before .before .before .before .before .before .before .before .before .put-header .ensures) (c .before .before .before .before .before .before .before .before .before .before .before .put-bytes .ensures) (rw (c .before .before .before .before .before .before .before .check-of .ensures) at (c .before .before .before .before .before .before .put-check .ensures)) (c .before .before .put-closing .ensures)))
+    whole-frame _ _ _ _ _ _ (x .identifier) (x .command) (x .bytes .now) (x .acknowledge) (10 * length (x .bytes .now)) refl
+    (c .before .before .before .before .before .before .before .before .before .before .before .before .before .before .before .before .before .before .before .put .ensures) (c .before .before .before .before .before .before .before .before .before .before .before .before .before .before .before .put-header .ensures) (c .before .before .before .before .before .before .before .before .before .before .before .put-bytes .ensures) (rw (c .before .before .before .before .before .before .before .check-of .ensures) at (c .before .before .before .before .before .before .put-check .ensures)) (c .before .before .put-closing .ensures)))

@@ -19,8 +19,8 @@ put-header-spec =
     (λ c κs. omega arith)
     (λ c. search needs)
     (λ c. let i = c .before .before .before .before .before .before .before .before .before .before .before .before .before .before .before .before .before .args .identifier in
-      let l = three-long (i / 256) (i / 16 % 16) (i % 16) in
-      rw header-code
-      (joined _ _ _ 10 25 ((five (i / 256) ++ five (i / 16 % 16)) ++ five (i % 16)) (five (c .before .before .before .before .before .before .before .before .before .before .before .before .before .before .before .before .before .args .command))
-        (three-nibbles _ _ _ _ 10 15 20 (i / 256) (i / 16 % 16) (i % 16) (c .before .before .before .before .before .before .before .before .before .before .before .before .before .before .put-nibble .ensures) (c .before .before .before .before .before .before .before .before .before .before .put-nibble2 .ensures) (c .before .before .before .before .before .before .put-nibble3 .ensures) refl refl)
-        (c .before .before .put-nibble4 .ensures) (omega arith))))
+    let l = three-long (i / 256) (i / 16 % 16) (i % 16) in
+    rw header-code
+    (joined _ _ _ 10 25 ((five (i / 256) ++ five (i / 16 % 16)) ++ five (i % 16)) (five (c .before .before .before .before .before .before .before .before .before .before .before .before .before .before .before .before .before .args .command))
+    (three-nibbles _ _ _ _ 10 15 20 (i / 256) (i / 16 % 16) (i % 16) (c .before .before .before .before .before .before .before .before .before .before .before .before .before .before .put-nibble .ensures) (c .before .before .before .before .before .before .before .before .before .before .put-nibble2 .ensures) (c .before .before .before .before .before .before .put-nibble3 .ensures) refl refl)
+    (c .before .before .put-nibble4 .ensures) (omega arith))))
