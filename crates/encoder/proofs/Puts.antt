@@ -12,7 +12,7 @@ use Rattle.line.specs.Bits.{bits}
 use Rattle.line.specs.LineCode.{lineCode, pattern}
 use Rattle.line.specs.Check.{check, remainder, allOnes}
 use Rattle.line.specs.Frame.{Frame, byteBits, covered, carried, start, endOfData, endOfFrame, acknowledgeSlots, slots}
-use Rattle.line.specs.Laws.{next, bits-length, bits-split, bits-mod, code-append, code-length, pattern-slots, remainder-append, covered-length}
+use Rattle.line.specs.Laws.{next, header-bits, bits-length, bits-split, bits-mod, code-append, code-length, pattern-slots, remainder-append, covered-length}
 use Rattle.codec.specs.Encode.{given}
 
 pub sets-append : (l : List ℕ) (i : ℕ) (vs ws : List ℕ) → sets l i (vs ++ ws) ≡ sets (sets l i vs) (i + length vs) ws
@@ -112,13 +112,6 @@ pub three-long : (a b c : ℕ) → length ((five a ++ five b) ++ five c) ≡ 15
 three-long a b c = simp (length-append, five-length)
 
 -- ---- the check over identifier, command and data
-
-pub header-bits : (i c : ℕ) → c < 16 → bits 8 (i / 16) ++ bits 8 (i % 16 * 16 + c) ≡ bits 12 i ++ bits 4 c
-header-bits i c h =
-    let q : (i % 16 * 16 + c) / 16 ≡ i % 16 = omega arith in
-    let r : (i % 16 * 16 + c) % 16 ≡ c = omega arith in
-    let low : bits 8 (i % 16 * 16 + c) ≡ bits 4 i ++ bits 4 c = bits-split 4 4 (i % 16 * 16 + c) ∙ rw (q, ← (bits-mod 4 (i % 16 * 16 + c)), r, bits-mod 4 i) in
-    rw (low, bits-split 8 4 i) (sym (append-assoc (bits 8 (i / 16)) (bits 4 i) (bits 4 c)))
 
 pub check-bits : (i c : ℕ) (bs : List ℕ) → c < 16 →
     check (bits 12 i ++ (bits 4 c ++ byteBits bs)) ≡ 32767 - remainder (remainder (remainder 32767 (bits 8 (i / 16))) (bits 8 (i % 16 * 16 + c))) (byteBits bs)

@@ -192,6 +192,19 @@ pub carried-length : (f : Frame) → length (carried f) ≡ 31 + 8 * length (f .
 unfolding carried
 carried-length f = simp (length-append, bits-length, covered-length) (omega arith)
 
+pub byteBits-append : (s t : List ℕ) → byteBits (s ++ t) ≡ byteBits s ++ byteBits t
+unfolding byteBits
+byteBits-append [] t = refl
+byteBits-append (b ∷ s) t = rw (byteBits-append s t) (sym (append-assoc (bits 8 b) (byteBits s) (byteBits t)))
+
+-- identifier and command as two bytes
+pub header-bits : (i c : ℕ) → c < 16 → bits 8 (i / 16) ++ bits 8 (i % 16 * 16 + c) ≡ bits 12 i ++ bits 4 c
+header-bits i c h =
+    let q : (i % 16 * 16 + c) / 16 ≡ i % 16 = omega arith in
+    let r : (i % 16 * 16 + c) % 16 ≡ c = omega arith in
+    let low : bits 8 (i % 16 * 16 + c) ≡ bits 4 i ++ bits 4 c = bits-split 4 4 (i % 16 * 16 + c) ∙ rw (q, ← (bits-mod 4 (i % 16 * 16 + c)), r, bits-mod 4 i) in
+    rw (low, bits-split 8 4 i) (sym (append-assoc (bits 8 (i / 16)) (bits 4 i) (bits 4 c)))
+
 -- the remainder over the bytes from place i on
 pub bytes-next : (r : ℕ) (s : List ℕ) (i : ℕ) → i < length s →
     remainder r (byteBits (drop i s)) ≡ remainder (remainder r (bits 8 (getD s i 0))) (byteBits (drop (i + 1) s))

@@ -1,0 +1,68 @@
+-- What is claimed of the controller's rules: refusals, the lowest channel, sending, closed runs, and the marked cases P6 to P9 and P12 (01, Marked cases).
+use Prim.Native.Nat.{ℕ, _≤_, _<_}
+use mathlib.Core.Bool.{Bool, true, false}
+use mathlib.Core.List.{List, [], _∷_, _++_}
+use mathlib.Core.Path.{_≡_, refl}
+use lib.Bits.{and-zero-r}
+use Rattle.rules.specs.Channels.{base, matches, lowest}
+use Rattle.rules.specs.Lowest.{found}
+use Rattle.rules.specs.Mailbox.{mailboxAt, statusByte}
+use Rattle.rules.specs.State.{inRange}
+use Rattle.rules.specs.Run.{fresh, step, after}
+use Rattle.rules.specs.Tally.{none}
+use Rattle.rules.specs.Promise.{Kept}
+use Rattle.rules.specs.Demand3.{demand-3}
+use Rattle.rules.specs.Reach.{never-six, never-refused-six, refused-same, refused-value}
+use Rattle.rules.specs.Examples as examples
+use Rattle.rules.specs.Examples.{Counts, seenOver, setUp, ones, echoed, overdriven}
+use Rattle.rules.specs.declared.Choice.the-variants.{Lowest}
+use Rattle.rules.specs.declared.Controller.{Controller}
+use Rattle.rules.specs.declared.Event.{Event}
+use Rattle.rules.specs.declared.Event.the-variants.{Slot, Write}
+
+-- a refused event changes nothing and answers zero; no state that a run reaches is refused with 6
+pub record Refusals : Type 0 where
+  pub same : (c : Controller) (e : Event) → (step c e .refused ≡ 0 → ⊥) → step c e .next ≡ c
+  pub zero-elsewhere : (c : Controller) (e : Event) → (step c e .refused ≡ 0 → ⊥) → step c e .value ≡ 0
+  pub in-range : (es : List Event) → inRange (after fresh es .core) ≡ true
+  pub never-six : (es : List Event) (e : Event) → step (after fresh es) e .refused ≡ 6 → ⊥
+
+pub refusals : Refusals
+refusals = record { same = refused-same; zero-elsewhere = refused-value; in-range = never-six; never-six = never-refused-six }
+
+-- "Lowest channel number wins": the one that is found passes, and none below it does
+pub record Lowest-first : Type 0 where
+  pub wins : (passes : ℕ → Bool) (left from c : ℕ) → lowest passes left from ≡ Lowest c → (passes c ≡ true) × ((k : ℕ) → from ≤ k → k < c → passes k ≡ false)
+
+pub lowest-first : Lowest-first
+lowest-first = record { wins = found }
+
+-- demand 3, for every list of events from a fresh controller
+pub record Sending : Type 0 where
+  pub kept : (es : List Event) → Kept fresh none es
+
+pub sending : Sending
+sending = record { kept = demand-3 }
+
+-- closed runs: what was lost, failed and spent (C, errors, slots) once the last sample is judged
+pub record Runs : Type 0 where
+  pub success : Counts (seenOver fresh none (setUp ++ (ones 12 ++ echoed)) (Slot 1)) 0 0 60
+  pub exhausted : Counts (seenOver fresh none (setUp ++ (ones 12 ++ (Slot 1 ∷ (ones 12 ++ (Slot 1 ∷ ones 12))))) (Slot 1)) 0 3 3
+  pub lost-twice : Counts (seenOver fresh none (setUp ++ (ones 12 ++ (overdriven ++ (ones 12 ++ (overdriven ++ (ones 12 ++ echoed)))))) (Slot 1)) 2 0 82
+  pub join : Counts (seenOver fresh none (setUp ++ (Write 0x01 0x22 ∷ (ones 12 ++ echoed))) (Slot 1)) 0 0 50
+  pub abort : Counts (seenOver fresh none (setUp ++ (ones 12 ++ (Slot 0 ∷ Slot 0 ∷ Slot 0 ∷ Write 0x13 0x0C ∷ []))) (Slot 1)) 0 1 4
+
+pub runs : Runs
+runs = record { success = examples.success; exhausted = examples.exhausted; lost-twice = examples.lost-twice; join = examples.join; abort = examples.abort }
+
+pub record Marked : Type 0 where
+  pub p6 : base 13 ≡ 0x78
+  pub p7 : matches 0xFF8 0xFF8 0xFFF ≡ true
+  pub p7′ : matches 0xFF8 0xFF8 0xFF7 ≡ false
+  pub p8 : (tag identifier : ℕ) → matches tag 0 identifier ≡ true
+  pub p9 : (mailboxAt 0x7F 0 ≡ 0xFF) × (mailboxAt 0x7F 1 ≡ 0x80) × (mailboxAt 0x7F 2 ≡ 0x81)
+  pub p12 : statusByte 0b0100 3 ≡ 0x83
+
+pub marked : Marked
+unfolding base matches mailboxAt statusByte
+marked = record { p6 = refl; p7 = refl; p7′ = refl; p8 = λ tag identifier. simp and-zero-r; p9 = (refl, refl, refl); p12 = refl }
