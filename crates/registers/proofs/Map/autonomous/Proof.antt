@@ -1,0 +1,10 @@
+use mathlib.Core.Path.{refl}
+use Rattle.rules.specs.Registers.{autonomous}
+use Rattle.registers.proofs.Map.autonomous.Statement.{statement}
+use Rattle.registers.proofs.Map.autonomous.Tie as tie
+
+pub autonomous-spec : {M : Type 1} → statement M
+unfolding autonomous
+autonomous-spec =
+    tie.close (tie.spec
+    (λ c. refl))

@@ -1,0 +1,10 @@
+use mathlib.Core.Path.{refl}
+use Rattle.rules.specs.Registers.{invertsReceive}
+use Rattle.registers.proofs.Map.inverts_receive.Statement.{statement}
+use Rattle.registers.proofs.Map.inverts_receive.Tie as tie
+
+pub inverts-receive-spec : {M : Type 1} → statement M
+unfolding invertsReceive
+inverts-receive-spec =
+    tie.close (tie.spec
+    (λ c. refl))

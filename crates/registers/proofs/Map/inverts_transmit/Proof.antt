@@ -1,0 +1,10 @@
+use mathlib.Core.Path.{refl}
+use Rattle.rules.specs.Registers.{invertsTransmit}
+use Rattle.registers.proofs.Map.inverts_transmit.Statement.{statement}
+use Rattle.registers.proofs.Map.inverts_transmit.Tie as tie
+
+pub inverts-transmit-spec : {M : Type 1} → statement M
+unfolding invertsTransmit
+inverts-transmit-spec =
+    tie.close (tie.spec
+    (λ c. refl))
