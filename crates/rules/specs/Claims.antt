@@ -1,4 +1,4 @@
--- What is claimed of the controller's rules: refusals, the lowest channel, sending, closed runs, and the marked cases P6 to P9 and P12 (01, Marked cases).
+-- What is claimed of the controller's rules: refusals, matching, sending, closed runs, and the marked cases P6 to P9 and P12 (01, Marked cases).
 use Prim.Native.Nat.{ℕ, _≤_, _<_}
 use mathlib.Core.Bool.{Bool, true, false}
 use mathlib.Core.List.{List, [], _∷_, _++_}
@@ -6,7 +6,10 @@ use mathlib.Core.Path.{_≡_, refl}
 use lib.Bits.{and-zero-r}
 use Rattle.rules.specs.Channels.{base, matches, lowest}
 use Rattle.rules.specs.Lowest.{found}
+use Rattle.rules.specs.Masks as masks
+use Rattle.rules.specs.Masks.{bitAt}
 use Rattle.rules.specs.Mailbox.{mailboxAt, statusByte}
+use Rattle.rules.specs.Hearing.{fits}
 use Rattle.rules.specs.State.{inRange}
 use Rattle.rules.specs.Run.{fresh, step, after}
 use Rattle.rules.specs.Tally.{none}
@@ -16,6 +19,7 @@ use Rattle.rules.specs.Reach.{never-six, never-refused-six, refused-same
 use Rattle.rules.specs.Examples as examples
 use Rattle.rules.specs.Examples.{Counts, seenOver, setUp, ones, echoed, overdriven}
 use Rattle.rules.specs.declared.Choice.the-variants.{Lowest}
+use Rattle.rules.specs.declared.Winner.{Winner}
 use Rattle.rules.specs.declared.Controller.{Controller}
 use Rattle.rules.specs.declared.Event.{Event}
 use Rattle.rules.specs.declared.Event.the-variants.{Slot, Write}
@@ -30,12 +34,15 @@ pub record Refusals : Type 0 where
 pub refusals : Refusals
 refusals = record { same = refused-same; zero-elsewhere = refused-value; in-range = never-six; never-six = never-refused-six }
 
--- "Lowest channel number wins": the one that is found passes, and none below it does
-pub record Lowest-first : Type 0 where
+pub record Matching : Type 0 where
+  -- "A frame matches when every tag bit under a mask one equals the identifier's": then, and only then
+  pub told : (tag mask identifier : ℕ) → matches tag mask identifier ≡ true → (k : ℕ) → bitAt mask k ≡ 1 → bitAt tag k ≡ bitAt identifier k
+  pub enough : (tag mask identifier : ℕ) → ((k : ℕ) → bitAt mask k ≡ 1 → bitAt tag k ≡ bitAt identifier k) → matches tag mask identifier ≡ true
+  -- "Lowest channel number wins": the one that is found passes, and none below it does
   pub wins : (passes : ℕ → Bool) (left from c : ℕ) → lowest passes left from ≡ Lowest c → (passes c ≡ true) × ((k : ℕ) → from ≤ k → k < c → passes k ≡ false)
 
-pub lowest-first : Lowest-first
-lowest-first = record { wins = found }
+pub matching : Matching
+matching = record { told = masks.told; enough = masks.enough; wins = found }
 
 -- demand 3, for every list of events from a fresh controller
 pub record Sending : Type 0 where
@@ -62,7 +69,9 @@ pub record Marked : Type 0 where
   pub p8 : (tag identifier : ℕ) → matches tag 0 identifier ≡ true
   pub p9 : (mailboxAt 0x7F 0 ≡ 0xFF) × (mailboxAt 0x7F 1 ≡ 0x80) × (mailboxAt 0x7F 2 ≡ 0x81)
   pub p12 : statusByte 0b0100 3 ≡ 0x83
+  -- "M_L 3 takes 2 bytes and not 3"
+  pub m-l-3 : (w : Winner) → w .length ≡ 3 → (fits w 2 ≡ true) × (fits w 3 ≡ false)
 
 pub marked : Marked
-unfolding base matches mailboxAt statusByte
-marked = record { p6 = refl; p7 = refl; p7′ = refl; p8 = λ tag identifier. simp and-zero-r; p9 = (refl, refl, refl); p12 = refl }
+unfolding base matches mailboxAt statusByte fits
+marked = record { p6 = refl; p7 = refl; p7′ = refl; p8 = λ tag identifier. simp and-zero-r; p9 = (refl, refl, refl); p12 = refl; m-l-3 = λ w h. (rw h, rw h) }

@@ -13,6 +13,7 @@ pub mod Run
 pub mod Tally
 pub mod Promise
 pub mod Lowest
+pub mod Masks
 pub mod Frames
 pub mod Join
 pub mod Steps

@@ -228,9 +228,9 @@ pub fn refusal_claims()
     ensures { λ _. ⌜ claims.Refusals ⌝ }
 {}
 
-// Holds the claim that the lowest channel wins; it does nothing.
-pub fn lowest_claims()
-    ensures { λ _. ⌜ claims.Lowest-first ⌝ }
+// Holds the claims on masks and the lowest channel; it does nothing.
+pub fn matching_claims()
+    ensures { λ _. ⌜ claims.Matching ⌝ }
 {}
 
 // Holds demand 3, for every list of events from a fresh controller; it does nothing.
