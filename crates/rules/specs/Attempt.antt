@@ -84,11 +84,11 @@ isDriving Sending = true
 unfoldable pub drivesFrame : Progress → Bool
 drivesFrame p = isDriving (p .stage)
 
--- ---- the fixed frame: "both acknowledge slots recessive"
+-- ---- the fixed frame: "both acknowledge slots recessive". A count above 30, which no state in range has, is taken mod 31
 
 unfoldable pub sentSlots : Coded → List ℕ
 sentSlots x =
-    start ++ (lineCode (take (31 + 8 * x .n) (byteBits (x .bytes))) ++ (endOfData ++ (acknowledgeSlots false ++ endOfFrame)))
+    start ++ (lineCode (take (31 + 8 * (x .n % 31)) (byteBits (x .bytes))) ++ (endOfData ++ (acknowledgeSlots false ++ endOfFrame)))
 
 unfoldable pub levelAt : Coded → ℕ → ℕ
 levelAt x k = getD (sentSlots x) k 1

@@ -49,4 +49,6 @@ module _ (f : Frame) (fits : Fits 30 f) where
   -- the level of slot k of the fixed frame is the k-th element of the frame's slots
   pub level-coded : f .acknowledge ≡ false → (k : ℕ) → levelAt (coded f) k ≡ getD (slots f) k 1
   unfolding levelAt sentSlots coded slots
-  level-coded a k = rw (coded-carried, a)
+  level-coded a k =
+      let n : length (f .bytes) % 31 ≡ length (f .bytes) = omega (arith, fits .size) in
+      rw (n, coded-carried, a)

@@ -10,6 +10,7 @@ pub mod State
 pub mod Slots
 pub mod Host
 pub mod Run
+pub mod Answers
 pub mod Tally
 pub mod Promise
 pub mod Lowest

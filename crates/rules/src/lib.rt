@@ -215,6 +215,36 @@ pub struct Answer {
     pub next: Controller,
 }
 
+// Why an event is refused (01, Numbers refused).
+pub enum Refusal {
+    Address,
+    Value,
+    Unwritable,
+    Unreadable,
+    Levels,
+    Range,
+    Asleep,
+    FixedBits,
+}
+
+// The byte read, the level of TXD or 0; or why not.
+pub enum Reply {
+    Accepted(u8),
+    Refused(Refusal),
+}
+
+// What a call answers, and the controller that it leaves.
+pub struct Outcome {
+    pub reply: Reply,
+    pub next: Controller,
+}
+
+// The same where the memory map is lent.
+pub struct CoreOutcome {
+    pub reply: Reply,
+    pub next: Core,
+}
+
 // Pin reset; host write of an address and a value; host read of an address; a slot with the levels of the three inputs.
 pub enum Event {
     Reset,
