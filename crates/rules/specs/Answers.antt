@@ -1,13 +1,17 @@
 -- What the calls answer (01, Numbers refused).
 --   number == the paper's number of a refusal        answerOf == the number or 0, the value or 0, and the next controller
+--   controller == a lent memory map and the rest of the state        answerLent == the answer of a call that is lent the map, as it left it
 use Prim.Native.Nat.{ℕ}
+use mathlib.Core.List.{List}
 use Rattle.rules.specs.declared.Refusal.{Refusal}
 use Rattle.rules.specs.declared.Refusal.the-variants.{Address, Value, Unwritable, Unreadable, Levels, Range, Asleep, FixedBits}
 use Rattle.rules.specs.declared.Reply.{Reply}
 use Rattle.rules.specs.declared.Reply.the-variants.{Accepted, Refused}
+use Rattle.rules.specs.declared.Core.{Core}
 use Rattle.rules.specs.declared.Controller.{Controller}
 use Rattle.rules.specs.declared.Answer.{Answer}
 use Rattle.rules.specs.declared.Outcome.{Outcome}
+use Rattle.rules.specs.declared.CoreOutcome.{CoreOutcome}
 
 unfoldable pub number : Refusal → ℕ
 number Address = 1
@@ -30,3 +34,16 @@ valueOf (Refused why) = 0
 
 unfoldable pub answerOf : Outcome → Answer
 answerOf o = record { refused = refusedBy (o .reply); value = valueOf (o .reply); next = o .next }
+
+-- the same over a lent map
+unfoldable pub refusedLent : Core → Refusal → CoreOutcome
+refusedLent k why = record { reply = Refused why; next = k }
+
+unfoldable pub acceptedLent : ℕ → Core → CoreOutcome
+acceptedLent value k = record { reply = Accepted value; next = k }
+
+abbrev pub controller : List ℕ → Core → Controller
+controller m k = record { memory = m; core = k }
+
+unfoldable pub answerLent : CoreOutcome → List ℕ → Answer
+answerLent o m = record { refused = refusedBy (o .reply); value = valueOf (o .reply); next = controller m (o .next) }

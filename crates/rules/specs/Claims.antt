@@ -1,9 +1,11 @@
--- What is claimed of the controller's rules: refusals, matching, sending, closed runs, and the marked cases P6 to P9 and P12 (01, Marked cases).
+-- What is claimed of the controller's rules: refusals, matching, sending, receiving, closed runs, and the marked cases P6 to P9 and P12 (01, Marked cases).
 use Prim.Native.Nat.{ℕ, _≤_, _<_}
 use mathlib.Core.Bool.{Bool, true, false}
 use mathlib.Core.List.{List, [], _∷_, _++_}
 use mathlib.Core.Path.{_≡_, refl}
 use lib.Bits.{and-zero-r}
+use lib.ListN.{take}
+use Rattle.line.specs.Frame.{slots}
 use Rattle.rules.specs.Channels.{base, matches, lowest}
 use Rattle.rules.specs.Lowest.{found}
 use Rattle.rules.specs.Masks as masks
@@ -11,13 +13,18 @@ use Rattle.rules.specs.Masks.{bitAt}
 use Rattle.rules.specs.Mailbox.{mailboxAt, statusByte}
 use Rattle.rules.specs.Hearing.{fits}
 use Rattle.rules.specs.State.{inRange}
+use Rattle.rules.specs.Slots.{drives}
 use Rattle.rules.specs.Run.{fresh, step, after}
 use Rattle.rules.specs.Tally.{none}
 use Rattle.rules.specs.Promise.{Kept}
 use Rattle.rules.specs.Demand3.{demand-3}
+use Rattle.rules.specs.Delivered.{noLog, Delivered}
+use Rattle.rules.specs.Deliver.{delivery}
 use Rattle.rules.specs.Reach.{never-six, never-refused-six, refused-same, refused-value}
 use Rattle.rules.specs.Examples as examples
-use Rattle.rules.specs.Examples.{Counts, seenOver, setUp, ones, echoed, overdriven}
+use Rattle.rules.specs.Examples.{Counts, seenOver, setUp, ones, levels, echoed, overdriven}
+use Rattle.rules.specs.DeliverExamples as taken
+use Rattle.rules.specs.DeliverExamples.{ran, listening, asking, Stored}
 use Rattle.rules.specs.declared.Choice.the-variants.{Lowest}
 use Rattle.rules.specs.declared.Winner.{Winner}
 use Rattle.rules.specs.declared.Controller.{Controller}
@@ -50,6 +57,16 @@ pub record Sending : Type 0 where
 
 pub sending : Sending
 sending = record { kept = demand-3 }
+
+-- what is delivered and acknowledged, for every list of events from a fresh controller
+pub record Receiving : Type 0 where
+  pub kept : (es : List Event) → Delivered fresh noLog es
+  -- a closed run: the acknowledge is driven, and the frame is stored
+  pub driven : drives (ran fresh (listening ++ (ones 12 ++ levels (take 71 (slots asking)))) .core) ≡ 0
+  pub stored : Stored (ran fresh (listening ++ (ones 12 ++ levels (slots asking))) .memory)
+
+pub receiving : Receiving
+receiving = record { kept = delivery; driven = taken.driven; stored = taken.stored }
 
 -- closed runs: what was lost, failed and spent (C, errors, slots) once the last sample is judged
 pub record Runs : Type 0 where

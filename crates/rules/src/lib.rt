@@ -1,5 +1,7 @@
 // The controller's state and answers: what the definitions in specs/ speak of; and the claims over every run.
 ghost use Rattle.rules.specs.Claims as claims;
+ghost use Rattle.rules.specs.Own as own;
+ghost use Rattle.rules.specs.Interrupts as interrupts;
 
 // ---- registers (01, Memory map)
 
@@ -266,6 +268,21 @@ pub fn matching_claims()
 // Holds demand 3, for every list of events from a fresh controller; it does nothing.
 pub fn sending_claims()
     ensures { λ _. ⌜ claims.Sending ⌝ }
+{}
+
+// Holds what is delivered and acknowledged, for every list of events from a fresh controller; it does nothing.
+pub fn receiving_claims()
+    ensures { λ _. ⌜ claims.Receiving ⌝ }
+{}
+
+// Holds the claim on the model's own frames, for every list of events from a fresh controller; it does nothing.
+pub fn own_claims()
+    ensures { λ _. ⌜ own.OwnFrames ⌝ }
+{}
+
+// Holds the claim on the interrupt line and the six status bits; it does nothing.
+pub fn interrupt_claims()
+    ensures { λ _. ⌜ interrupts.Interrupts ⌝ }
 {}
 
 // Holds the closed runs; it does nothing.

@@ -1,0 +1,33 @@
+use borrow.Author.Needs.{needs}
+use Rattle.rules.specs.Attempt.{advance}
+use Rattle.attempt.specs.Driver.{following}
+use Rattle.attempt.proofs.advance.Statement.{statement}
+use Rattle.attempt.proofs.advance.Tie as tie
+
+pub advance-spec : {M : Type 1} → statement M
+unfolding advance following
+advance-spec =
+    tie.close (tie.spec
+    (λ c. search needs)
+    (λ c. search needs)
+    (λ c. let h = rw (c .before .enum-told2 .given .1) at (c .before .before .before .before .pre) in search needs)
+    (λ c κs. tt)
+    (λ c κs. tt)
+    (λ c κs. tt)
+    (λ c. search needs)
+    (λ c κs. tt)
+    (λ c κs. tt)
+    (λ c κs. tt)
+    (λ c. search needs)
+    (λ c κs. tt)
+    (λ c κs. tt)
+    (λ c κs. tt)
+    (λ c. search needs)
+    (λ c κs. tt)
+    (λ c κs. tt)
+    (λ c κs. tt)
+    (λ c. simp (c .enum-told .given .1))
+    (λ c. simp (← (c .with-progress .ensures), ← (c .before .slot-spent .ensures), ← (c .before .before .at-stage .ensures), c .before .before .before .before .enum-told2 .given .1))
+    (λ c. simp (← (c .with-progress2 .ensures), ← (c .before .lost-spent .ensures), ← (c .before .before .at-stage2 .ensures), c .before .before .before .enum-told3 .given .1))
+    (λ c. simp (← (c .with-progress3 .ensures), ← (c .before .error-spent .ensures), ← (c .before .before .at-stage3 .ensures), c .before .before .before .enum-told4 .given .1))
+    (λ c. simp (← (c .with-progress4 .ensures), ← (c .before .slot-spent2 .ensures), ← (c .before .before .at-stage4 .ensures), c .before .before .before .enum-told5 .given .1)))

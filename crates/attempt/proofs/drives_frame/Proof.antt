@@ -1,0 +1,17 @@
+use borrow.Author.Needs.{needs}
+use Rattle.rules.specs.Attempt.{isDriving, drivesFrame}
+use Rattle.attempt.proofs.drives_frame.Statement.{statement}
+use Rattle.attempt.proofs.drives_frame.Tie as tie
+
+pub drives-frame-spec : {M : Type 1} → statement M
+unfolding isDriving drivesFrame
+drives-frame-spec =
+    tie.close (tie.spec
+    (λ c. search needs)
+    (λ c. search needs)
+    (λ c. search needs)
+    (λ c. search needs)
+    (λ c. simp (c .enum-told .given .1))
+    (λ c. simp (c .enum-told2 .given .1))
+    (λ c. simp (c .enum-told3 .given .1))
+    (λ c. simp (c .enum-told4 .given .1)))

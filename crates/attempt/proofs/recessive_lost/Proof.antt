@@ -1,0 +1,18 @@
+use borrow.Author.Needs.{needs}
+use Rattle.rules.specs.Attempt.{recessiveLost}
+use Rattle.attempt.proofs.recessive_lost.Statement.{statement}
+use Rattle.attempt.proofs.recessive_lost.Tie as tie
+
+pub recessive-lost-spec : {M : Type 1} → statement M
+unfolding recessiveLost
+recessive-lost-spec =
+    tie.close (tie.spec
+    (λ c. search needs)
+    (λ c κs. search needs)
+    (λ c. search needs)
+    (λ c κs. search needs)
+    (λ c. search needs)
+    (λ c κs. search needs)
+    (λ c. simp (← (c .overdriven .ensures), c .before .enum-told .given .1))
+    (λ c. simp (← (c .overdriven2 .ensures), c .before .enum-told2 .given .1))
+    (λ c. simp (← (c .violated .ensures), c .before .enum-told3 .given .1)))

@@ -1,0 +1,386 @@
+// An attempt to send: the level that it drives, its judgement slot by slot, and what it spends (01, Sending).
+ghost use mathlib.Core.Path.{_≡_};
+ghost use Prim.Native.Nat.{_+_, _<_};
+ghost use Rattle.rules.specs.Attempt as rule;
+ghost use Rattle.attempt.specs.Driver as driver;
+use line::Half;
+use line::Part;
+use registers::Code;
+use rules::Attempts;
+use rules::Coded;
+use rules::Counters;
+use rules::Effort;
+use rules::Progress;
+use rules::Stage;
+use rules::Timeslots;
+use rules::Verdict;
+
+// What a sample is for the attempt, and the effort after it.
+pub struct Trial {
+    pub verdict: Verdict,
+    pub effort: Effort,
+}
+
+// ---- counts: they stop at their largest
+
+const LARGEST: u32 = 4294967295;
+
+// One slot more.
+fn more_slots(t: Timeslots) -> Timeslots
+    ensures { λ r. ⌜ r ≡ rule.moreSlots t ⌝ }
+{
+    let x = t.0;
+    if x < LARGEST {
+        return Timeslots(x + 1);
+    }
+    t
+}
+
+// One attempt more.
+fn more_attempts(t: Attempts) -> Attempts
+    ensures { λ r. ⌜ r ≡ rule.moreAttempts t ⌝ }
+{
+    let x = t.0;
+    if x < LARGEST {
+        return Attempts(x + 1);
+    }
+    t
+}
+
+// A service starts with nothing spent.
+pub fn no_counts() -> Counters
+    ensures { λ r. ⌜ r ≡ rule.noCounts ⌝ }
+{
+    Counters {
+        slots: Timeslots(0),
+        lost: Attempts(0),
+        errors: Attempts(0),
+    }
+}
+
+// ---- the stage
+
+// A place in a service.
+pub fn at_stage(stage: Stage, at: u16) -> Progress
+    ensures { λ r. ⌜ r ≡ rule.atStage stage at ⌝ }
+{
+    Progress {
+        stage: stage,
+        at: at,
+    }
+}
+
+// TXG.
+pub fn in_service(p: Progress) -> bool
+    ensures { λ r. ⌜ r ≡ rule.inService p ⌝ }
+{
+    let stage = p.stage;
+    match stage {
+        Stage::Resting => false, // no service
+        Stage::Waiting => true, // also between attempts
+        Stage::Opening => true,
+        Stage::Sending => true,
+    }
+}
+
+// In a service and between attempts: a first level answered and not yet sampled is no attempt.
+pub fn between_attempts(p: Progress) -> bool
+    ensures { λ r. ⌜ r ≡ rule.betweenAttempts p ⌝ }
+{
+    let stage = p.stage;
+    match stage {
+        Stage::Resting => false,
+        Stage::Waiting => true,
+        Stage::Opening => true, // not sampled yet
+        Stage::Sending => false, // in an attempt
+    }
+}
+
+// In a service, with no level answered.
+pub fn waits(p: Progress) -> bool
+    ensures { λ r. ⌜ r ≡ rule.waits p ⌝ }
+{
+    let stage = p.stage;
+    match stage {
+        Stage::Resting => false,
+        Stage::Waiting => true, // nothing answered
+        Stage::Opening => false, // a level answered
+        Stage::Sending => false,
+    }
+}
+
+// A level of the frame is driven in the slot to come.
+pub fn drives_frame(p: Progress) -> bool
+    ensures { λ r. ⌜ r ≡ rule.drivesFrame p ⌝ }
+{
+    let stage = p.stage;
+    match stage {
+        Stage::Resting => false,
+        Stage::Waiting => false, // nothing to drive
+        Stage::Opening => true, // the first level
+        Stage::Sending => true,
+    }
+}
+
+// ---- the fixed frame's levels
+
+// The start's slots: 0000 1111 0 1.
+fn start_level(k: u16) -> u8
+    ensures { λ r. ⌜ r ≡ driver.startLevel k ⌝ }
+{
+    if k < 4 {
+        return 0;
+    }
+    if k < 8 {
+        return 1;
+    }
+    if k == 8 {
+        return 0;
+    }
+    1
+}
+
+// A slot of a pattern, the first slot highest.
+fn slot_of(pattern: u8, place: u16) -> u8
+    ensures { λ r. ⌜ r ≡ driver.slotOf pattern place ⌝ }
+{
+    match place {
+        0 => pattern / 16 % 2,
+        1 => pattern / 8 % 2,
+        2 => pattern / 4 % 2,
+        3 => pattern / 2 % 2,
+        _ => pattern % 2,
+    }
+}
+
+// A nibble of the frame's bytes, the high half of a byte first.
+fn nibble_at(bytes: [u8; 34], i: u16) -> u8
+    requires { ⌜ i < 68 ⌝ }
+    ensures { λ r. ⌜ r ≡ driver.nibbleAt bytes i ⌝ }
+{
+    let b = bytes[(i / 2) as usize];
+    if i % 2 == 0 {
+        return b / 16;
+    }
+    b % 16
+}
+
+// A slot of the coded part, which begins behind the start.
+fn coded_level(bytes: [u8; 34], m: u16) -> u8
+    requires { ⌜ m < 338 ⌝ }
+    ensures { λ r. ⌜ r ≡ driver.codedLevel bytes m ⌝ }
+{
+    let nibble = nibble_at(bytes, m / 5);
+    slot_of(line::pattern(nibble), m % 5)
+}
+
+// The level of slot k of the frame of n data bytes: recessive behind the end of data, and past the frame.
+fn level_of(bytes: [u8; 34], n: u8, k: u16) -> u8
+    ensures { λ r. ⌜ r ≡ rule.levelAt (driver.framed n bytes) k ⌝ }
+{
+    let long = 10 * ((n % 31) as u16);
+    if k < 10 {
+        return start_level(k);
+    }
+    if k < 48 + long {
+        return coded_level(bytes, k - 10);
+    }
+    if k < 50 + long {
+        return 0;
+    }
+    1
+}
+
+// The same, of the fixed frame.
+fn level_at(x: Coded, k: u16) -> u8
+    ensures { λ r. ⌜ r ≡ rule.levelAt x k ⌝ }
+{
+    let bytes = x.bytes;
+    level_of(bytes, x.n, k)
+}
+
+// The level that the service drives.
+pub fn sender_level(e: Effort) -> u8
+    ensures { λ r. ⌜ r ≡ rule.levelAt (e .frame) (e .progress .at) ⌝ }
+{
+    let x = e.frame;
+    level_at(x, e.progress.at)
+}
+
+// ---- the sender's judgement
+
+// The second slot of an acknowledge that is present.
+const PRESENT: u8 = 0;
+
+// The level due: the driven one, but in the second slot of the acknowledge that of a present one where RAK asks for it.
+fn due(x: Coded, k: u16) -> u8
+    ensures { λ r. ⌜ r ≡ rule.due x k ⌝ }
+{
+    if k == 51 + 10 * (x.n as u16) {
+        if channels::acknowledge_asked(x.bytes[1]) {
+            return PRESENT;
+        }
+        return level_at(x, k);
+    }
+    level_at(x, k)
+}
+
+// Recessive driven and dominant sampled in a plain bit or first half: contention in identifier, command and data, in the check an error.
+fn overdriven(p: Part) -> Verdict
+    ensures { λ r. ⌜ r ≡ rule.overdriven p ⌝ }
+{
+    match p {
+        Part::Start => Verdict::Failed(Code::CV),
+        Part::Identifier => Verdict::Lost,
+        Part::Command => Verdict::Lost,
+        Part::Data => Verdict::Lost,
+        Part::Check => Verdict::Failed(Code::FCSE),
+        Part::EndOfData => Verdict::Failed(Code::CV),
+        Part::Acknowledge => Verdict::Failed(Code::ACKE),
+        Part::EndOfFrame => Verdict::Failed(Code::CV),
+        Part::After => Verdict::Failed(Code::CV),
+    }
+}
+
+// Every other difference.
+fn violated(p: Part) -> Verdict
+    ensures { λ r. ⌜ r ≡ rule.violated p ⌝ }
+{
+    match p {
+        Part::Start => Verdict::Failed(Code::CV),
+        Part::Identifier => Verdict::Failed(Code::CV),
+        Part::Command => Verdict::Failed(Code::CV),
+        Part::Data => Verdict::Failed(Code::CV),
+        Part::Check => Verdict::Failed(Code::CV),
+        Part::EndOfData => Verdict::Failed(Code::CV),
+        Part::Acknowledge => Verdict::Failed(Code::ACKE),
+        Part::EndOfFrame => Verdict::Failed(Code::CV),
+        Part::After => Verdict::Failed(Code::CV),
+    }
+}
+
+// Recessive driven and dominant sampled.
+fn recessive_lost(h: Half, p: Part) -> Verdict
+    ensures { λ r. ⌜ r ≡ rule.recessiveLost h p ⌝ }
+{
+    match h {
+        Half::Plain => overdriven(p),
+        Half::First => overdriven(p),
+        Half::Second => violated(p),
+    }
+}
+
+// A sample unlike the level due, where d is driven.
+fn difference(n: u8, k: u16, d: u8) -> Verdict
+    ensures { λ r. ⌜ r ≡ rule.difference n k d ⌝ }
+{
+    let p = line::part_of(n, k);
+    if d == 1 {
+        return recessive_lost(line::half_of(n, k), p);
+    }
+    violated(p)
+}
+
+// What a sample in slot k of the fixed frame is for the attempt.
+fn judge_slot(x: Coded, k: u16, v: u8) -> Verdict
+    ensures { λ r. ⌜ r ≡ rule.judgeSlot x k v ⌝ }
+{
+    if v == due(x, k) {
+        if k as u32 + 1 < 60 + 10 * (x.n as u32) {
+            return Verdict::Goes;
+        }
+        return Verdict::Done;
+    }
+    difference(x.n, k, level_at(x, k))
+}
+
+// The same, if an attempt is under way.
+fn judge(e: Effort, v: u8) -> Verdict
+    ensures { λ r. ⌜ r ≡ rule.judge e v ⌝ }
+{
+    let p = e.progress;
+    if drives_frame(p) {
+        let x = e.frame;
+        return judge_slot(x, p.at, v);
+    }
+    Verdict::Unjudged
+}
+
+// ---- what the attempt spends
+
+fn with_progress(e: Effort, p: Progress, c: Counters) -> Effort
+    ensures { λ r. ⌜ r ≡ rule.withProgress e p c ⌝ }
+{
+    let mut t = e;
+    t.progress = p;
+    t.counters = c;
+    t
+}
+
+// One slot more.
+fn slot_spent(c: Counters) -> Counters
+    ensures { λ r. ⌜ r ≡ rule.slotSpent c ⌝ }
+{
+    let mut t = c;
+    t.slots = more_slots(c.slots);
+    t
+}
+
+// One slot and one lost attempt more: no retry is spent.
+fn lost_spent(c: Counters) -> Counters
+    ensures { λ r. ⌜ r ≡ rule.lostSpent c ⌝ }
+{
+    let mut t = slot_spent(c);
+    t.lost = more_attempts(c.lost);
+    t
+}
+
+// One slot and one error more.
+fn error_spent(c: Counters) -> Counters
+    ensures { λ r. ⌜ r ≡ rule.errorSpent c ⌝ }
+{
+    let mut t = slot_spent(c);
+    t.errors = more_attempts(c.errors);
+    t
+}
+
+// The effort after a sample.
+fn advance(w: Verdict, e: Effort) -> Effort
+    requires { ⌜ driver.following w (e .progress .at) < 65536 ⌝ }
+    ensures { λ r. ⌜ r ≡ rule.advance w e ⌝ }
+{
+    let c = e.counters;
+    match w {
+        Verdict::Unjudged => e,
+        Verdict::Goes => with_progress(
+            e,
+            at_stage(Stage::Sending, e.progress.at + 1),
+            slot_spent(c),
+        ),
+        Verdict::Lost => with_progress(e, at_stage(Stage::Waiting, 0), lost_spent(c)),
+        Verdict::Failed(_) => with_progress(e, at_stage(Stage::Waiting, 0), error_spent(c)),
+        Verdict::Done => with_progress(e, at_stage(Stage::Waiting, 0), slot_spent(c)),
+    }
+}
+
+// A slot of the attempt: what its sample is, and the effort after it.
+pub fn tried(e: Effort, v: u8) -> Trial
+    ensures verdict { λ r. ⌜ r .verdict ≡ rule.judge e v ⌝ }
+    ensures effort { λ r. ⌜ r .effort ≡ rule.advance (rule.judge e v) e ⌝ }
+{
+    let w = judge(e, v);
+    Trial {
+        verdict: w,
+        effort: advance(w, e),
+    }
+}
+
+// ---- the end of the service
+
+// Error R + 1.
+pub fn exhausted(e: Effort) -> bool
+    ensures { λ r. ⌜ r ≡ rule.exhausted e ⌝ }
+{
+    let errors = e.counters.errors;
+    (e.setting as u32) < errors.0
+}

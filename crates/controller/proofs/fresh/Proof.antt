@@ -1,0 +1,15 @@
+use borrow.Author.Needs.{needs}
+use mathlib.Core.Path.{refl}
+use borrow.Author.Tests.{lt-ltb, le-ltb, le-leb, lt-leb, eq-eqb, ne-eqb}
+use Rattle.rules.specs.Run.{fresh}
+use Rattle.rules.specs.Host.{resetAll}
+use Rattle.controller.proofs.fresh.Statement.{statement}
+use Rattle.controller.proofs.fresh.Tie as tie
+
+pub fresh-spec : {M : Type 1} → statement M
+unfolding fresh resetAll
+fresh-spec =
+    tie.close (tie.spec
+    (λ c κs. search needs)
+    (λ c κs. search needs)
+    (λ c. simp (← (c .reset-core .ensures), ← (c .before .reset-memory .ensures))))

@@ -1,0 +1,11 @@
+use Rattle.rules.specs.Answers.{answerOf, answerLent}
+use Rattle.rules.specs.Run.{step}
+use Rattle.controller.proofs.host_write.Statement.{statement}
+use Rattle.controller.proofs.host_write.Tie as tie
+
+pub host-write-spec : {M : Type 1} → statement M
+unfolding answerOf answerLent step
+host-write-spec =
+    tie.close (tie.spec
+    (λ c κs. tt)
+    (λ c. c .before .host-write-on .ensures))

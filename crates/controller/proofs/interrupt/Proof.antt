@@ -1,0 +1,13 @@
+use borrow.Author.Needs.{needs}
+use mathlib.Core.Path.{refl}
+use borrow.Author.Tests.{lt-ltb, le-ltb, le-leb, lt-leb, eq-eqb, ne-eqb}
+use Rattle.rules.specs.Host.{interruptLine}
+use Rattle.controller.proofs.interrupt.Statement.{statement}
+use Rattle.controller.proofs.interrupt.Tie as tie
+
+pub interrupt-spec : {M : Type 1} → statement M
+unfolding interruptLine
+interrupt-spec =
+    tie.close (tie.spec
+    (λ c κs. search needs)
+    (λ c. simp (← (c .interrupt-on .ensures))))

@@ -1,0 +1,11 @@
+use Rattle.rules.specs.Answers.{answerOf, answerLent}
+use Rattle.rules.specs.Run.{step}
+use Rattle.controller.proofs.pin_reset.Statement.{statement}
+use Rattle.controller.proofs.pin_reset.Tie as tie
+
+pub pin-reset-spec : {M : Type 1} → statement M
+unfolding answerOf answerLent step
+pin-reset-spec =
+    tie.close (tie.spec
+    (λ c κs. tt)
+    (λ c. c .before .pin-reset-on .ensures))

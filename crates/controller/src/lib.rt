@@ -1,0 +1,87 @@
+// The controller by value: fresh, pin reset, host write, host read, slot, interrupt line. Each answers what the step rule says (01, Numbers refused; Session and listing).
+ghost use mathlib.Core.Path.{_≡_};
+ghost use Rattle.rules.specs.Run as run;
+ghost use Rattle.rules.specs.Host as host_rule;
+ghost use Rattle.rules.specs.Answers as answers;
+ghost use Rattle.rules.specs.declared.Event.the-variants as event;
+use registers::Map;
+use rules::Controller;
+use rules::Outcome;
+use rules::Refusal;
+
+// A fresh controller: a reset one with zero channels and mailbox.
+pub fn fresh() -> Controller
+    ensures { λ r. ⌜ r ≡ run.fresh ⌝ }
+{
+    Controller {
+        memory: Map::reset_memory([0u8; 256]),
+        core: state::reset_core(),
+    }
+}
+
+pub fn pin_reset(c: Controller) -> Outcome
+    ensures { λ r. ⌜ answers.answerOf r ≡ run.step c event.Reset ⌝ }
+{
+    let mut t = c;
+    let x = host::pin_reset_on(&mut t.memory, c.core);
+    let k = x.next;
+    t.core = k;
+    let reply = x.reply;
+    Outcome { reply, next: t }
+}
+
+pub fn host_write(c: Controller, address: u16, value: u16) -> Outcome
+    ensures { λ r. ⌜ answers.answerOf r ≡ run.step c (event.Write address value) ⌝ }
+{
+    let mut t = c;
+    let x = host::host_write_on(&mut t.memory, c.core, address, value);
+    let k = x.next;
+    t.core = k;
+    let reply = x.reply;
+    Outcome { reply, next: t }
+}
+
+pub fn host_read(c: Controller, address: u16) -> Outcome
+    ensures { λ r. ⌜ answers.answerOf r ≡ run.step c (event.Read address) ⌝ }
+{
+    let mut t = c;
+    let x = host::host_read_on(&t.memory, c.core, address);
+    let k = x.next;
+    t.core = k;
+    let reply = x.reply;
+    Outcome { reply, next: t }
+}
+
+pub fn slot(c: Controller, levels: u16) -> Outcome
+    ensures { λ r. ⌜ answers.answerOf r ≡ run.step c (event.Slot levels) ⌝ }
+{
+    let mut t = c;
+    let x = slots::slot_on(&mut t.memory, c.core, levels);
+    let k = x.next;
+    t.core = k;
+    let reply = x.reply;
+    Outcome { reply, next: t }
+}
+
+pub fn interrupt(c: Controller) -> bool
+    ensures { λ r. ⌜ r ≡ host_rule.interruptLine c ⌝ }
+{
+    let t = c;
+    host::interrupt_on(&t.memory, t.core)
+}
+
+// The paper's number of a refusal.
+pub fn number(why: Refusal) -> u8
+    ensures { λ r. ⌜ r ≡ answers.number why ⌝ }
+{
+    match why {
+        Refusal::Address => 1,
+        Refusal::Value => 2,
+        Refusal::Unwritable => 3,
+        Refusal::Unreadable => 4,
+        Refusal::Levels => 5,
+        Refusal::Range => 6,
+        Refusal::Asleep => 7,
+        Refusal::FixedBits => 8,
+    }
+}

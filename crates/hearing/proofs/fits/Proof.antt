@@ -1,0 +1,10 @@
+use mathlib.Core.Path.{refl}
+use Rattle.rules.specs.Hearing.{fits}
+use Rattle.hearing.proofs.fits.Statement.{statement}
+use Rattle.hearing.proofs.fits.Tie as tie
+
+pub fits-spec : {M : Type 1} → statement M
+unfolding fits
+fits-spec =
+    tie.close (tie.spec
+    (λ c. refl))

@@ -1,0 +1,16 @@
+use borrow.Author.Needs.{needs}
+use mathlib.Core.Path.{refl}
+use borrow.Author.Tests.{lt-ltb, le-ltb, le-leb, lt-leb, eq-eqb, ne-eqb}
+use Rattle.rules.specs.Host.{byteRead}
+use Rattle.host.proofs.byte_read.Statement.{statement}
+use Rattle.host.proofs.byte_read.Tie as tie
+
+pub byte-read-spec : {M : Type 1} → statement M
+unfolding byteRead
+byte-read-spec =
+    tie.close (tie.spec
+    (λ c κs. search needs)
+    (λ c κs. search needs)
+    (λ c. simp (c .before .if1 .taken, ← (c .status-read .ensures), ← (c .before .before .read-only .ensures)))
+    (λ c. search needs)
+    (λ c. simp (c .before .if1 .left, ← (c .before .before .read-only .ensures))))

@@ -1,0 +1,15 @@
+use borrow.Author.Needs.{needs}
+use mathlib.Core.Path.{refl}
+use borrow.Author.Tests.{lt-ltb, le-ltb, le-leb, lt-leb, eq-eqb, ne-eqb}
+use Rattle.rules.specs.Host.{flagsCleared}
+use Rattle.rules.specs.State.{withReport}
+use Rattle.rules.specs.Delivery.{withFlags}
+use Rattle.host.proofs.flags_cleared.Statement.{statement}
+use Rattle.host.proofs.flags_cleared.Tie as tie
+
+pub flags-cleared-spec : {M : Type 1} → statement M
+unfolding flagsCleared withReport withFlags
+flags-cleared-spec =
+    tie.close (tie.spec
+    (λ c κs. search needs)
+    (λ c. simp (← (c .cleared .ensures))))

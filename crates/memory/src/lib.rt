@@ -1,0 +1,165 @@
+// The mailbox, the frame that a channel sends, and what the controller writes to a channel (01, Receiving, Sending; 000, Mailbox).
+// The map is lent and changed in place. A channel number is taken modulo 14.
+ghost use mathlib.Core.Path.{_≡_};
+ghost use mathlib.Core.List.{_∷_};
+ghost use Prim.Native.Nat.{_+_, _*_, _/_, _%_, _≤_, _<_};
+ghost use lib.ListN.{length, set, take, replicate};
+ghost use lib.Seq.{sets};
+ghost use Rattle.line.specs.Check as check;
+ghost use Rattle.line.specs.Frame as frame;
+ghost use Rattle.rules.specs.Channels as channel;
+ghost use Rattle.rules.specs.Mailbox as rule;
+use rules::Coded;
+
+// ---- the mailbox
+
+// The address k places behind a pointer; 0xFF is followed by 0x80.
+fn mailbox_at(pointer: u8, k: usize) -> usize
+    requires { ⌜ k ≤ 32 ⌝ }
+    ensures value { λ r. ⌜ r ≡ rule.mailboxAt pointer k ⌝ }
+    ensures range { λ r. ⌜ r < 256 ⌝ }
+{
+    0x80 + (pointer as usize + k) % 128
+}
+
+// RAK, R/W, RTR and the count n in five bits.
+fn status_byte(low: u8, n: u8) -> u8
+    ensures { λ r. ⌜ r ≡ rule.statusByte low n ⌝ }
+{
+    low % 8 * 32 + n % 32
+}
+
+// Data bytes, from the place behind the status byte on.
+fn lay(m: &mut [u8; 256], pointer: u8, bytes: &[u8])
+    requires { ⌜ length (now bytes) ≤ 32 ⌝ }
+    ensures { λ _. ⌜ now (m .exit) ≡ rule.laidFrom (now (m .entry)) pointer 1 (now (bytes .entry)) ⌝ }
+{
+    let mut k = 0;
+    while k < bytes.len() {
+        let at = mailbox_at(pointer, k + 1);
+        m[at] = bytes[k];
+        k += 1;
+    }
+}
+
+// A frame in the mailbox: the status byte, n data bytes behind it, and no other byte. A frame's bytes hold at most 32.
+pub fn store(m: &mut [u8; 256], pointer: u8, bytes: [u8; 34], n: u8)
+    ensures { λ _. ⌜ now (m .exit) ≡ rule.stored (now (m .entry)) pointer bytes n ⌝ }
+{
+    let first = mailbox_at(pointer, 0);
+    m[first] = status_byte(bytes[1], n);
+    if n < 32 {
+        let end = 2 + n as usize;
+        lay(m, pointer, &bytes[2..end]);
+        return;
+    }
+    lay(m, pointer, &bytes[2..34]);
+}
+
+// ---- the frame that a channel sends
+
+// The data bytes that a length M_L holds.
+fn data_in(length: u8) -> u8
+    ensures value { λ r. ⌜ r ≡ rule.dataIn length ⌝ }
+    ensures range { λ r. ⌜ r ≤ 30 ⌝ }
+{
+    if length == 0 {
+        return 0;
+    }
+    (length - 1) % 31
+}
+
+// Identifier and command as two bytes, and zeros.
+fn headed(high: u8, low: u8) -> [u8; 34]
+    ensures { λ r. ⌜ r ≡ (channel.twelve high low / 16) ∷ (channel.twelve high low % 16 * 16 + low % 16) ∷ replicate 32 0 ⌝ }
+{
+    let mut bytes = [0u8; 34];
+    bytes[0] = high;
+    bytes[1] = low;
+    bytes
+}
+
+// The n data bytes behind a pointer, into a frame's bytes.
+fn copy(bytes: &mut [u8; 34], m: &[u8; 256], pointer: u8, n: u8)
+    requires { ⌜ n ≤ 30 ⌝ }
+    ensures { λ _. ⌜ now (bytes .exit) ≡ sets (now (bytes .entry)) 2 (rule.mailboxBytes (now (m .entry)) pointer 1 n) ⌝ }
+{
+    let mut k = 0;
+    while k < n as usize {
+        let at = mailbox_at(pointer, k + 1);
+        bytes[k + 2] = m[at];
+        k += 1;
+    }
+}
+
+// The check over a row of bytes.
+fn check_of(bytes: &[u8]) -> u16
+    ensures value { λ r. ⌜ r ≡ check.check (frame.byteBits (now (bytes .entry))) ⌝ }
+    ensures range { λ r. ⌜ r < 32768 ⌝ }
+{
+    32767 - line::check_bytes(32767, bytes)
+}
+
+// The check as two bytes behind the data, a zero bit behind it.
+fn sealed(bytes: [u8; 34], n: u8) -> [u8; 34]
+    requires { ⌜ n ≤ 30 ⌝ }
+    ensures { λ r. ⌜ r ≡ set (set bytes (n + 2) (check.check (frame.byteBits (take (n + 2) bytes)) / 128)) (n + 3) (check.check (frame.byteBits (take (n + 2) bytes)) % 128 * 2) ⌝ }
+{
+    let end = n as usize + 2;
+    let check = check_of(&bytes[..end]);
+    let mut t = bytes;
+    t[end] = (check / 128) as u8;
+    t[end + 1] = (check % 128 * 2) as u8;
+    t
+}
+
+// The frame that channel c sends: its tag and command, M_L - 1 data bytes from pointer + 1, and the check.
+pub fn coded_of(m: &[u8; 256], c: u8) -> Coded
+    ensures { λ r. ⌜ r ≡ rule.coded (rule.sentFrame (now (m .entry)) c) ⌝ }
+{
+    let at = channels::base(c);
+    let b = channels::buffer_of(m, c);
+    let n = data_in(b.length);
+    let mut bytes = headed(m[at], m[at + 1]);
+    copy(&mut bytes, m, b.pointer, n);
+    Coded {
+        n: n,
+        bytes: sealed(bytes, n),
+    }
+}
+
+// ---- what the controller writes to a channel
+
+// The tag of channel c rewritten with the identifier received; the command bits stay.
+pub fn retag(m: &mut [u8; 256], c: u8, high: u8, low: u8)
+    ensures { λ _. ⌜ now (m .exit) ≡ rule.retagged (now (m .entry)) c high low ⌝ }
+{
+    let at = channels::base(c);
+    let kept = m[at + 1] % 16;
+    m[at] = high;
+    m[at + 1] = low / 16 * 16 + kept;
+}
+
+// CHER set in channel c.
+pub fn mark_cher(m: &mut [u8; 256], c: u8)
+    ensures { λ _. ⌜ now (m .exit) ≡ rule.markedCher (now (m .entry)) c ⌝ }
+{
+    let at = channels::base(c) + 3;
+    m[at] = channels::with_cher(m[at]);
+}
+
+// CHTx set in channel c.
+pub fn mark_chtx(m: &mut [u8; 256], c: u8)
+    ensures { λ _. ⌜ now (m .exit) ≡ rule.markedChtx (now (m .entry)) c ⌝ }
+{
+    let at = channels::base(c) + 3;
+    m[at] = channels::with_chtx(m[at]);
+}
+
+// CHRx set in channel c.
+pub fn mark_chrx(m: &mut [u8; 256], c: u8)
+    ensures { λ _. ⌜ now (m .exit) ≡ rule.markedChrx (now (m .entry)) c ⌝ }
+{
+    let at = channels::base(c) + 3;
+    m[at] = channels::with_chrx(m[at]);
+}

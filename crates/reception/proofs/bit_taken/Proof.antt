@@ -1,0 +1,15 @@
+use borrow.Author.Needs.{needs}
+use Rattle.rules.specs.Reception.{bitTaken}
+use Rattle.reception.proofs.bit_taken.Statement.{statement}
+use Rattle.reception.proofs.bit_taken.Tie as tie
+
+pub bit-taken-spec : {M : Type 1} → statement M
+unfolding bitTaken
+bit-taken-spec =
+    tie.close (tie.spec
+    (λ c. search needs)
+    (λ c κs. tt)
+    (λ c. search needs)
+    (λ c. search needs)
+    (λ c κs. tt)
+    (λ c. simp (← (c .with-place .ensures), ← (c .before .before .at-place .ensures))))

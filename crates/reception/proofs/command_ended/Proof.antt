@@ -1,0 +1,10 @@
+use Rattle.rules.specs.Reception.{commandEnded}
+use Rattle.reception.proofs.command_ended.Statement.{statement}
+use Rattle.reception.proofs.command_ended.Tie as tie
+
+pub command-ended-spec : {M : Type 1} → statement M
+unfolding commandEnded
+command-ended-spec =
+    tie.close (tie.spec
+    (λ c κs. tt)
+    (λ c. simp (← (c .behind .ensures))))

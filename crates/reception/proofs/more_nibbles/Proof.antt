@@ -1,0 +1,13 @@
+use borrow.Author.Needs.{needs}
+use borrow.Author.Tests.{lt-ltb, le-ltb}
+use Rattle.rules.specs.Reception.{moreNibbles}
+use Rattle.reception.proofs.more_nibbles.Statement.{statement}
+use Rattle.reception.proofs.more_nibbles.Tie as tie
+
+pub more-nibbles-spec : {M : Type 1} → statement M
+unfolding moreNibbles
+more-nibbles-spec =
+    tie.close (tie.spec
+    (λ c. search needs)
+    (λ c. simp (lt-ltb _ _ (c .if1 .taken)))
+    (λ c. simp (le-ltb _ _ (c .if1 .left))))

@@ -1,0 +1,12 @@
+use Rattle.rules.specs.Reception.{nibbleTaken}
+use Rattle.reception.proofs.nibble_taken.Statement.{statement}
+use Rattle.reception.proofs.nibble_taken.Tie as tie
+
+pub nibble-taken-spec : {M : Type 1} → statement M
+unfolding nibbleTaken
+nibble-taken-spec =
+    tie.close (tie.spec
+    (λ c κs. tt)
+    (λ c κs. tt)
+    (λ c κs. tt)
+    (λ c. simp (← (c .more-nibbles .ensures), ← (c .before .at-place .ensures), ← (c .before .before .with-nibble .ensures))))

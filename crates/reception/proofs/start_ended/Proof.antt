@@ -1,0 +1,10 @@
+use Rattle.rules.specs.Reception.{startEnded}
+use Rattle.reception.proofs.start_ended.Statement.{statement}
+use Rattle.reception.proofs.start_ended.Tie as tie
+
+pub start-ended-spec : {M : Type 1} → statement M
+unfolding startEnded
+start-ended-spec =
+    tie.close (tie.spec
+    (λ c κs. tt)
+    (λ c. simp (← (c .behind .ensures))))

@@ -1,0 +1,321 @@
+// The line, and the frame under way: its place, its bits, who takes it (01, Receiving; Sending, "Free line").
+// The frame is followed too while the model itself sends.
+ghost use mathlib.Core.Path.{_≡_};
+ghost use Prim.Native.Nat.{_<_, _+_, _*_, _/_, _%_};
+ghost use Rattle.rules.specs.Reception as rule;
+use rules::Line;
+use rules::Phase;
+use rules::Place;
+use rules::Reception;
+
+// ---- the line
+
+// After reset, fault or activation: twelve recessive slots are due.
+pub fn unsettled() -> Line
+    ensures { λ r. ⌜ r ≡ rule.unsettled ⌝ }
+{
+    Line {
+        good: false,
+        count: 0,
+    }
+}
+
+// After the last slot of a good frame: four are due.
+pub fn after_good() -> Line
+    ensures { λ r. ⌜ r ≡ rule.afterGood ⌝ }
+{
+    let mut t = unsettled();
+    t.good = true;
+    t
+}
+
+// Whether the line is free: four recessive slots in a row after a good frame, else twelve.
+pub fn free(l: Line) -> bool
+    ensures { λ r. ⌜ r ≡ rule.free l ⌝ }
+{
+    if l.good {
+        return 4 <= l.count;
+    }
+    12 <= l.count
+}
+
+// Whether a start sequence is taken: from the slot after a good frame on, else only on a free line.
+pub fn takes_start(l: Line) -> bool
+    ensures { λ r. ⌜ r ≡ rule.takesStart l ⌝ }
+{
+    if l.good {
+        return true;
+    }
+    free(l)
+}
+
+// A slot with no frame: a 1 counts, a 0 starts the count again.
+pub fn counted(l: Line, v: u8) -> Line
+    ensures { λ r. ⌜ r ≡ rule.counted l v ⌝ }
+{
+    let mut t = l;
+    if v == 0 {
+        t.count = 0;
+        return t;
+    }
+    if l.count < 12 {
+        t.count = l.count + 1;
+        return t;
+    }
+    t
+}
+
+// ---- the place in the frame
+
+// A place in a frame.
+fn at_place(phase: Phase, at: u8) -> Place
+    ensures { λ r. ⌜ r ≡ rule.atPlace phase at ⌝ }
+{
+    Place {
+        phase: phase,
+        at: at,
+    }
+}
+
+// No frame under way.
+pub fn quiet() -> Reception
+    ensures { λ r. ⌜ r ≡ rule.quiet ⌝ }
+{
+    Reception {
+        place: at_place(Phase::Quiet, 0),
+        nibbles: 0,
+        bits: 0,
+        bytes: [0u8; 34],
+        winner: channels::nobody(),
+    }
+}
+
+// Whether a frame, start included, is under way: RXG.
+pub fn under_way(p: Place) -> bool
+    ensures { λ r. ⌜ r ≡ rule.underWay p ⌝ }
+{
+    let phase = p.phase;
+    match phase {
+        Phase::Quiet => false,
+        Phase::Start => true,
+        Phase::Body => true,
+        Phase::Acknowledge => true,
+        Phase::End => true,
+    }
+}
+
+// Whether the place lies between identifier and end of data.
+fn in_body(p: Place) -> bool
+    ensures { λ r. ⌜ r ≡ rule.inBody p ⌝ }
+{
+    let phase = p.phase;
+    match phase {
+        Phase::Quiet => false,
+        Phase::Start => false,
+        Phase::Body => true,
+        Phase::Acknowledge => false,
+        Phase::End => false,
+    }
+}
+
+// Whether the frame stands between two nibbles, with so many whole.
+fn behind(r: Reception, whole: u8) -> bool
+    ensures { λ b. ⌜ b ≡ rule.behind r whole ⌝ }
+{
+    let p = r.place;
+    if p.at == 0 {
+        if r.nibbles == whole {
+            return in_body(p);
+        }
+        return false;
+    }
+    false
+}
+
+// Whether a clean start sequence has just ended: the next slot is the identifier's first.
+pub fn start_ended(r: Reception) -> bool
+    ensures { λ b. ⌜ b ≡ rule.startEnded r ⌝ }
+{
+    behind(r, 0)
+}
+
+// Whether the last command slot has just been taken: identifier and command are four nibbles.
+pub fn command_ended(r: Reception) -> bool
+    ensures { λ b. ⌜ b ≡ rule.commandEnded r ⌝ }
+{
+    behind(r, 4)
+}
+
+// ---- the frame goes on
+
+// The frame at another place, with other bits.
+fn with_place(r: Reception, p: Place, bits: u8) -> Reception
+    ensures { λ t. ⌜ t ≡ rule.withPlace r p bits ⌝ }
+{
+    let mut t = r;
+    t.place = p;
+    t.bits = bits;
+    t
+}
+
+// The next slot of the same phase.
+fn moved(r: Reception) -> Reception
+    requires { ⌜ r .place .at < 255 ⌝ }
+    ensures { λ t. ⌜ t ≡ rule.moved r ⌝ }
+{
+    let p = r.place;
+    let phase = p.phase;
+    with_place(r, at_place(phase, p.at + 1), r.bits)
+}
+
+// The first slot of a phase, with no bits.
+fn entered(r: Reception, phase: Phase) -> Reception
+    ensures { λ t. ⌜ t ≡ rule.entered r phase ⌝ }
+{
+    with_place(r, at_place(phase, 0), 0)
+}
+
+// The next slot, with one bit more of the nibble under way or of the acknowledge.
+fn bit_taken(r: Reception, v: u8) -> Reception
+    requires { ⌜ r .place .at < 255 ⌝ }
+    ensures { λ t. ⌜ t ≡ rule.bitTaken r v ⌝ }
+{
+    let p = r.place;
+    let phase = p.phase;
+    with_place(r, at_place(phase, p.at + 1), r.bits % 8 * 2 + v % 2)
+}
+
+// A byte with its low half replaced.
+fn with_low_half(byte: u8, nibble: u8) -> u8
+    ensures { λ r. ⌜ r ≡ byte / 16 * 16 + nibble % 16 ⌝ }
+{
+    byte / 16 * 16 + nibble % 16
+}
+
+// The bytes with nibble k, high half first.
+fn with_nibble(bytes: [u8; 34], k: u8, nibble: u8) -> [u8; 34]
+    ensures { λ r. ⌜ r ≡ rule.withNibble bytes k nibble ⌝ }
+{
+    let i = (k / 2 % 34) as usize;
+    let mut t = bytes;
+    if k % 2 == 0 {
+        t[i] = nibble % 16 * 16;
+        return t;
+    }
+    t[i] = with_low_half(bytes[i], nibble);
+    t
+}
+
+// One nibble more; the count stops at its largest, 67.
+fn more_nibbles(n: u8) -> u8
+    ensures { λ r. ⌜ r ≡ rule.moreNibbles n ⌝ }
+{
+    if n < 67 {
+        return n + 1;
+    }
+    67
+}
+
+// A nibble closed by a proper pair.
+fn nibble_taken(r: Reception) -> Reception
+    ensures { λ t. ⌜ t ≡ rule.nibbleTaken r ⌝ }
+{
+    let b = r.bytes;
+    let bytes = with_nibble(b, r.nibbles, r.bits);
+    let mut t = r;
+    t.place = at_place(Phase::Body, 0);
+    t.nibbles = more_nibbles(r.nibbles);
+    t.bits = 0;
+    t.bytes = bytes;
+    t
+}
+
+// The first slot of a start is taken.
+fn begun() -> Reception
+    ensures { λ r. ⌜ r ≡ rule.begun ⌝ }
+{
+    with_place(quiet(), at_place(Phase::Start, 1), 0)
+}
+
+// The start goes on, or the identifier is next.
+fn follow_start(r: Reception) -> Reception
+    ensures { λ t. ⌜ t ≡ rule.followStart r ⌝ }
+{
+    let p = r.place;
+    if p.at < 9 {
+        return moved(r);
+    }
+    entered(r, Phase::Body)
+}
+
+// A plain bit or first half is kept; a second half closes a nibble, or ends the data where it equals the first.
+fn follow_body(r: Reception, v: u8) -> Reception
+    ensures { λ t. ⌜ t ≡ rule.followBody r v ⌝ }
+{
+    let p = r.place;
+    if p.at < 4 {
+        return bit_taken(r, v);
+    }
+    if v == r.bits % 2 {
+        return entered(r, Phase::Acknowledge);
+    }
+    nibble_taken(r)
+}
+
+// The first acknowledge slot is kept for the second.
+fn follow_acknowledge(r: Reception, v: u8) -> Reception
+    ensures { λ t. ⌜ t ≡ rule.followAcknowledge r v ⌝ }
+{
+    let p = r.place;
+    if p.at == 0 {
+        return bit_taken(r, v);
+    }
+    entered(r, Phase::End)
+}
+
+// The end of frame goes on; its eighth slot is the last.
+fn follow_end(r: Reception) -> Reception
+    ensures { λ t. ⌜ t ≡ rule.followEnd r ⌝ }
+{
+    let p = r.place;
+    if p.at < 7 {
+        return moved(r);
+    }
+    r
+}
+
+// The frame once a sample that is no fault is taken.
+pub fn followed(r: Reception, v: u8) -> Reception
+    ensures { λ t. ⌜ t ≡ rule.followed r v ⌝ }
+{
+    let p = r.place;
+    let phase = p.phase;
+    match phase {
+        Phase::Quiet => begun(),
+        Phase::Start => follow_start(r),
+        Phase::Body => follow_body(r, v),
+        Phase::Acknowledge => follow_acknowledge(r, v),
+        Phase::End => follow_end(r),
+    }
+}
+
+// The frame with its winner, taken in the last command slot and held (house).
+pub fn named(r: Reception, m: &[u8; 256]) -> Reception
+    ensures { λ t. ⌜ t ≡ rule.named r (now (m .entry)) ⌝ }
+{
+    let b = r.bytes;
+    let w = channels::winner_for(m, b[0], b[1]);
+    let mut t = r;
+    t.winner = w;
+    t
+}
+
+// Data bytes, by the whole nibbles before the last three bits: identifier, command and check have seven.
+pub fn data_count(nibbles: u8) -> u8
+    ensures { λ r. ⌜ r ≡ rule.dataCount nibbles ⌝ }
+{
+    if nibbles < 7 {
+        return 0;
+    }
+    (nibbles - 7) / 2
+}

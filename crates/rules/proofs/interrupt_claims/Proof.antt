@@ -1,0 +1,6 @@
+use Rattle.rules.specs.InterruptsRaised.{interrupts}
+use Rattle.rules.proofs.interrupt_claims.Statement.{statement}
+use Rattle.rules.proofs.interrupt_claims.Tie as tie
+
+pub interrupt-claims-spec : {M : Type 1} → statement M
+interrupt-claims-spec = tie.close (tie.spec (λ c. interrupts))

@@ -1,0 +1,6 @@
+use Rattle.rules.specs.OwnProof.{own-frames}
+use Rattle.rules.proofs.own_claims.Statement.{statement}
+use Rattle.rules.proofs.own_claims.Tie as tie
+
+pub own-claims-spec : {M : Type 1} → statement M
+own-claims-spec = tie.close (tie.spec (λ c. own-frames))

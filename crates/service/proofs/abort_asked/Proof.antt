@@ -1,0 +1,12 @@
+use borrow.Author.Needs.{needs}
+use mathlib.Core.Path.{refl}
+use borrow.Author.Tests.{lt-ltb, le-ltb, le-leb, lt-leb, eq-eqb, ne-eqb}
+use Rattle.rules.specs.Service.{abortAsked}
+use Rattle.service.proofs.abort_asked.Statement.{statement}
+use Rattle.service.proofs.abort_asked.Tie as tie
+
+pub abort-asked-spec : {M : Type 1} → statement M
+unfolding abortAsked
+abort-asked-spec =
+    tie.close (tie.spec
+    (λ c. refl))

@@ -1,0 +1,14 @@
+use borrow.Author.Needs.{needs}
+use mathlib.Core.Path.{refl}
+use borrow.Author.Tests.{lt-ltb, le-ltb, le-leb, lt-leb, eq-eqb, ne-eqb}
+use Rattle.rules.specs.Service.{choose}
+use Rattle.service.proofs.choose.Statement.{statement}
+use Rattle.service.proofs.choose.Tie as tie
+
+pub choose-spec : {M : Type 1} → statement M
+unfolding choose
+choose-spec =
+    tie.close (tie.spec
+    (λ c κs. tt)
+    (λ c κs. tt)
+    (λ c. simp (← (c .choice-of .ensures), ← (c .before .lowest-ready .ensures))))

@@ -1,0 +1,26 @@
+use borrow.Author.Needs.{needs}
+use mathlib.Core.Path.{refl}
+use borrow.Author.Tests.{lt-ltb, le-ltb, le-leb, lt-leb, eq-eqb, ne-eqb}
+use Rattle.rules.specs.Service.{memoryEnded}
+use Rattle.rules.specs.Mailbox.{markedChtx, markedCher}
+use Rattle.service.proofs.end_memory.Statement.{statement}
+use Rattle.service.proofs.end_memory.Tie as tie
+
+pub end-memory-spec : {M : Type 1} → statement M
+unfolding memoryEnded markedChtx markedCher
+end-memory-spec =
+    tie.close (tie.spec
+    (λ c. search needs)
+    (λ c. search needs)
+    (λ c κs. tt)
+    (λ c. search needs)
+    (λ c κs. tt)
+    (λ c κs. tt)
+    (λ c. search needs)
+    (λ c κs. tt)
+    (λ c. search needs)
+    (λ c. simp (c .enum-told .given .1))
+    (λ c. simp (← (c .mark-chtx .ensures), c .before .before .enum-told2 .given .1))
+    (λ c. simp (← (c .mark-chtx2 .ensures), ← (c .before .before .mark-cher .ensures), c .before .before .before .before .enum-told3 .given .1))
+    (λ c. simp (← (c .mark-chtx3 .ensures), c .before .before .enum-told4 .given .1))
+    (λ c. simp (c .enum-told5 .given .1)))

@@ -1,0 +1,25 @@
+use borrow.Author.Needs.{needs}
+use mathlib.Core.Path.{refl}
+use borrow.Author.Tests.{lt-ltb, le-ltb, le-leb, lt-leb, eq-eqb, ne-eqb}
+use Rattle.rules.specs.Service.{endingOf}
+use Rattle.service.proofs.ending_of.Statement.{statement}
+use Rattle.service.proofs.ending_of.Tie as tie
+
+pub ending-of-spec : {M : Type 1} → statement M
+unfolding endingOf
+ending-of-spec =
+    tie.close (tie.spec
+    (λ c. search needs)
+    (λ c κs. tt)
+    (λ c. search needs)
+    (λ c κs. tt)
+    (λ c. search needs)
+    (λ c κs. tt)
+    (λ c. search needs)
+    (λ c κs. tt)
+    (λ c. search needs)
+    (λ c. simp (← (c .stopped .ensures), c .before .enum-told .given .1))
+    (λ c. simp (← (c .stopped2 .ensures), c .before .enum-told2 .given .1))
+    (λ c. simp (← (c .stopped3 .ensures), c .before .enum-told3 .given .1))
+    (λ c. simp (← (c .stopped4 .ensures), c .before .enum-told4 .given .1))
+    (λ c. simp (c .enum-told5 .given .1)))

@@ -1,0 +1,14 @@
+use borrow.Author.Needs.{needs}
+use mathlib.Core.Path.{refl}
+use borrow.Author.Tests.{lt-ltb, le-ltb, le-leb, lt-leb, eq-eqb, ne-eqb}
+use Rattle.rules.specs.Service.{opened, withEffort}
+use Rattle.rules.specs.Attempt.{withProgress}
+use Rattle.service.proofs.opened.Statement.{statement}
+use Rattle.service.proofs.opened.Tie as tie
+
+pub opened-spec : {M : Type 1} → statement M
+unfolding opened withEffort withProgress
+opened-spec =
+    tie.close (tie.spec
+    (λ c κs. tt)
+    (λ c. simp (← (c .at-stage .ensures))))

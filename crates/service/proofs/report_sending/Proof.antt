@@ -1,0 +1,14 @@
+use borrow.Author.Needs.{needs}
+use mathlib.Core.Path.{refl}
+use borrow.Author.Tests.{lt-ltb, le-ltb, le-leb, lt-leb, eq-eqb, ne-eqb}
+use Rattle.rules.specs.Service.{reportSending}
+use Rattle.rules.specs.Delivery.{withSending}
+use Rattle.service.proofs.report_sending.Statement.{statement}
+use Rattle.service.proofs.report_sending.Tie as tie
+
+pub report-sending-spec : {M : Type 1} → statement M
+unfolding reportSending withSending
+report-sending-spec =
+    tie.close (tie.spec
+    (λ c κs. tt)
+    (λ c. simp (← (c .retries-of .ensures))))

@@ -1,0 +1,14 @@
+use borrow.Author.Needs.{needs}
+use mathlib.Core.Path.{refl}
+use borrow.Author.Tests.{lt-ltb, le-ltb, le-leb, lt-leb, eq-eqb, ne-eqb}
+use Rattle.rules.specs.Service.{resting}
+use Rattle.service.proofs.resting.Statement.{statement}
+use Rattle.service.proofs.resting.Tie as tie
+
+pub resting-spec : {M : Type 1} → statement M
+unfolding resting
+resting-spec =
+    tie.close (tie.spec
+    (λ c κs. tt)
+    (λ c κs. tt)
+    (λ c. simp (← (c .no-counts .ensures), ← (c .before .at-stage .ensures))))

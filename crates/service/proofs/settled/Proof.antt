@@ -1,0 +1,25 @@
+use borrow.Author.Needs.{needs}
+use mathlib.Core.Path.{refl}
+use borrow.Author.Tests.{lt-ltb, le-ltb, le-leb, lt-leb, eq-eqb, ne-eqb}
+use Rattle.rules.specs.Service.{settled}
+use Rattle.service.proofs.settled.Statement.{statement}
+use Rattle.service.proofs.settled.Tie as tie
+
+pub settled-spec : {M : Type 1} → statement M
+unfolding settled
+settled-spec =
+    tie.close (tie.spec
+    (λ c. search needs)
+    (λ c. search needs)
+    (λ c κs. tt)
+    (λ c. search needs)
+    (λ c κs. tt)
+    (λ c. search needs)
+    (λ c κs. tt)
+    (λ c. search needs)
+    (λ c κs. tt)
+    (λ c. simp (c .enum-told .given .1))
+    (λ c. simp (← (c .resting .ensures), c .before .enum-told2 .given .1))
+    (λ c. simp (← (c .resting2 .ensures), c .before .enum-told3 .given .1))
+    (λ c. simp (← (c .resting3 .ensures), c .before .enum-told4 .given .1))
+    (λ c. simp (← (c .resting4 .ensures), c .before .enum-told5 .given .1)))

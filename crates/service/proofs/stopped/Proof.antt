@@ -1,0 +1,18 @@
+use borrow.Author.Needs.{needs}
+use mathlib.Core.Path.{refl}
+use borrow.Author.Tests.{lt-ltb, le-ltb, le-leb, lt-leb, eq-eqb, ne-eqb}
+use Rattle.rules.specs.Service.{stopped}
+use Rattle.service.proofs.stopped.Statement.{statement}
+use Rattle.service.proofs.stopped.Tie as tie
+
+pub stopped-spec : {M : Type 1} → statement M
+unfolding stopped
+stopped-spec =
+    tie.close (tie.spec
+    (λ c κs. tt)
+    (λ c κs. tt)
+    (λ c. simp (c .if2 .taken, c .before .before .if1 .taken, ← (c .before .exhausted .ensures), ← (c .before .before .before .between-attempts .ensures)))
+    (λ c. simp (c .if3 .taken, c .before .if2 .left, c .before .before .before .if1 .taken, ← (c .before .before .exhausted .ensures), ← (c .before .before .before .before .between-attempts .ensures)))
+    (λ c. simp (c .if4 .taken, c .before .if3 .left, c .before .before .if2 .left, c .before .before .before .before .if1 .taken, ← (c .before .before .before .exhausted .ensures), ← (c .before .before .before .before .before .between-attempts .ensures)))
+    (λ c. simp (c .if4 .left, c .before .if3 .left, c .before .before .if2 .left, c .before .before .before .before .if1 .taken, ← (c .before .before .before .exhausted .ensures), ← (c .before .before .before .before .before .between-attempts .ensures)))
+    (λ c. simp (c .if1 .left, ← (c .before .between-attempts .ensures))))

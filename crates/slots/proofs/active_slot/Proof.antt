@@ -1,0 +1,16 @@
+use borrow.Author.Needs.{needs}
+use mathlib.Core.Path.{refl}
+use borrow.Author.Tests.{lt-ltb, le-ltb, le-leb, lt-leb, eq-eqb, ne-eqb}
+use Rattle.rules.specs.Slots.{activeSlot, sampleOf}
+use Rattle.slots.proofs.active_slot.Statement.{statement}
+use Rattle.slots.proofs.active_slot.Tie as tie
+
+pub active-slot-spec : {M : Type 1} → statement M
+unfolding activeSlot sampleOf
+active-slot-spec =
+    tie.close (tie.spec
+    (λ c. search needs)
+    (λ c. search needs)
+    (λ c κs. search needs)
+    (λ c κs. search needs)
+    (λ c. simp (← (c .sampled-slot .ensures), ← (c .before .before .sampled .ensures))))

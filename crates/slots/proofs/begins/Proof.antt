@@ -1,0 +1,16 @@
+use borrow.Author.Needs.{needs}
+use mathlib.Core.Path.{refl}
+use borrow.Author.Tests.{lt-ltb, le-ltb, le-leb, lt-leb, eq-eqb, ne-eqb}
+use Rattle.slots.specs.Ordinary.{begins}
+use Rattle.slots.proofs.begins.Statement.{statement}
+use Rattle.slots.proofs.begins.Tie as tie
+
+pub begins-spec : {M : Type 1} → statement M
+unfolding begins
+begins-spec =
+    tie.close (tie.spec
+    (λ c. simp (c .if1 .taken))
+    (λ c κs. search needs)
+    (λ c κs. search needs)
+    (λ c. simp (c .before .if2 .taken, c .before .before .before .if1 .left, ← (c .start-ended .ensures), ← (c .before .before .under-way .ensures)))
+    (λ c. simp (c .if2 .left, c .before .before .if1 .left, ← (c .before .under-way .ensures))))

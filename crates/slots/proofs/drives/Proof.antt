@@ -1,0 +1,20 @@
+use borrow.Author.Needs.{needs}
+use mathlib.Core.Path.{refl}
+use borrow.Author.Tests.{lt-ltb, le-ltb, le-leb, lt-leb, eq-eqb, ne-eqb}
+use Rattle.rules.specs.Slots.{drives, drivesAs}
+use Rattle.slots.proofs.drives.Statement.{statement}
+use Rattle.slots.proofs.drives.Tie as tie
+
+pub drives-spec : {M : Type 1} → statement M
+unfolding drives drivesAs
+drives-spec =
+    tie.close (tie.spec
+    (λ c κs. search needs)
+    (λ c. search needs)
+    (λ c. search needs)
+    (λ c κs. search needs)
+    (λ c. search needs)
+    (λ c κs. search needs)
+    (λ c. simp (c .before .match .keys1, c .enum-told .given .1, ← (c .before .before .role-of .ensures)))
+    (λ c. simp (c .before .before .match .keys2, ← (c .receiver-level .ensures), c .before .enum-told2 .given .1, ← (c .before .before .before .role-of .ensures)))
+    (λ c. simp (c .before .before .match .keys3, ← (c .sender-level .ensures), c .before .enum-told3 .given .1, ← (c .before .before .before .role-of .ensures))))

@@ -1,0 +1,15 @@
+use borrow.Author.Needs.{needs}
+use mathlib.Core.Path.{refl}
+use borrow.Author.Tests.{lt-ltb, le-ltb, le-leb, lt-leb, eq-eqb, ne-eqb}
+use Rattle.slots.specs.Ordinary.{ordinary}
+use Rattle.slots.proofs.ordinary.Statement.{statement}
+use Rattle.slots.proofs.ordinary.Tie as tie
+
+pub ordinary-spec : {M : Type 1} → statement M
+unfolding ordinary
+ordinary-spec =
+    tie.close (tie.spec
+    (λ c κs. search needs)
+    (λ c κs. search needs)
+    (λ c. simp (c .before .if1 .taken, ← (c .goes .ensures), ← (c .before .before .passes .ensures)))
+    (λ c. simp (c .if1 .left, ← (c .before .passes .ensures))))

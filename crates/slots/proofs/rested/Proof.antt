@@ -1,0 +1,15 @@
+use borrow.Author.Needs.{needs}
+use mathlib.Core.Path.{refl}
+use borrow.Author.Tests.{lt-ltb, le-ltb, le-leb, lt-leb, eq-eqb, ne-eqb}
+use Rattle.rules.specs.Answers.{answerLent, refusedBy, valueOf, number}
+use Rattle.rules.specs.Run.{restedSlot, accept}
+use Rattle.slots.proofs.rested.Statement.{statement}
+use Rattle.slots.proofs.rested.Tie as tie
+
+pub rested-spec : {M : Type 1} → statement M
+unfolding answerLent refusedBy valueOf number restedSlot accept
+rested-spec =
+    tie.close (tie.spec
+    (λ c. search needs)
+    (λ c κs. search needs)
+    (λ c. simp (← (c .transmitted .ensures))))

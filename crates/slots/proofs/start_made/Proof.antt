@@ -1,0 +1,16 @@
+use borrow.Author.Needs.{needs}
+use mathlib.Core.Path.{refl}
+use borrow.Author.Tests.{lt-ltb, le-ltb, le-leb, lt-leb, eq-eqb, ne-eqb}
+use Rattle.rules.specs.Slots.{startMade}
+use Rattle.rules.specs.State.{withService}
+use Rattle.slots.proofs.start_made.Statement.{statement}
+use Rattle.slots.proofs.start_made.Tie as tie
+
+pub start-made-spec : {M : Type 1} → statement M
+unfolding startMade withService
+start-made-spec =
+    tie.close (tie.spec
+    (λ c. search needs)
+    (λ c κs. search needs)
+    (λ c κs. search needs)
+    (λ c. simp (← (c .started .ensures), ← (c .before .autonomous .ensures))))

@@ -1,0 +1,14 @@
+use borrow.Author.Needs.{needs}
+use mathlib.Core.Path.{refl}
+use borrow.Author.Tests.{lt-ltb, le-ltb, le-leb, lt-leb, eq-eqb, ne-eqb}
+use Rattle.rules.specs.State.{idled}
+use Rattle.state.proofs.idled.Statement.{statement}
+use Rattle.state.proofs.idled.Tie as tie
+
+pub idled-spec : {M : Type 1} → statement M
+unfolding idled
+idled-spec =
+    tie.close (tie.spec
+    (λ c κs. search needs)
+    (λ c κs. search needs)
+    (λ c. simp (← (c .quiet .ensures), ← (c .before .in-mode .ensures))))

@@ -1,0 +1,242 @@
+// The state but for the memory map: its modes and its ranges (01, Memory map; Numbers refused, 6).
+ghost use mathlib.Core.Path.{_≡_};
+ghost use Rattle.rules.specs.State as rule;
+use registers::Map;
+use rules::Activity;
+use rules::Core;
+use rules::Effort;
+use rules::Line;
+use rules::Mode;
+use rules::Reception;
+use rules::Report;
+use rules::Retries;
+use rules::Service;
+use rules::Winner;
+
+// ---- modes
+
+pub fn is_active(a: Activity) -> bool
+    ensures { λ r. ⌜ r ≡ rule.isActive (a .mode) ⌝ }
+{
+    let mode = a.mode;
+    match mode {
+        Mode::Idle => false,
+        Mode::Active => true,
+        Mode::Asleep => false,
+    }
+}
+
+pub fn is_asleep(a: Activity) -> bool
+    ensures { λ r. ⌜ r ≡ rule.isAsleep (a .mode) ⌝ }
+{
+    let mode = a.mode;
+    match mode {
+        Mode::Idle => false,
+        Mode::Active => false,
+        Mode::Asleep => true,
+    }
+}
+
+pub fn is_idle(a: Activity) -> bool
+    ensures { λ r. ⌜ r ≡ rule.isIdle (a .mode) ⌝ }
+{
+    let mode = a.mode;
+    match mode {
+        Mode::Idle => true,
+        Mode::Active => false,
+        Mode::Asleep => false,
+    }
+}
+
+fn in_mode(mode: Mode, waiting: bool) -> Activity
+    ensures { λ r. ⌜ r ≡ rule.inMode mode waiting ⌝ }
+{
+    Activity { mode, waiting }
+}
+
+// There is a service: TXG.
+pub fn serving(s: Service) -> bool
+    ensures { λ r. ⌜ r ≡ rule.serving s ⌝ }
+{
+    let e = s.effort;
+    attempt::in_service(e.progress)
+}
+
+// ---- number 6: a state number outside its range, one by one
+
+fn winner_in_range(w: Winner) -> bool
+    ensures { λ r. ⌜ r ≡ rule.winnerInRange w ⌝ }
+{
+    if 13 < w.channel {
+        return false;
+    }
+    if 127 < w.pointer {
+        return false;
+    }
+    w.length <= 31
+}
+
+fn reception_in_range(r: Reception) -> bool
+    ensures { λ b. ⌜ b ≡ rule.receptionInRange r ⌝ }
+{
+    let p = r.place;
+    if 9 < p.at {
+        return false;
+    }
+    if 67 < r.nibbles {
+        return false;
+    }
+    if 15 < r.bits {
+        return false;
+    }
+    winner_in_range(r.winner)
+}
+
+fn effort_in_range(e: Effort) -> bool
+    ensures { λ r. ⌜ r ≡ rule.effortInRange e ⌝ }
+{
+    let f = e.frame;
+    let p = e.progress;
+    let c = e.counters;
+    let x = c.errors;
+    if 30 < f.n {
+        return false;
+    }
+    if 359 < p.at {
+        return false;
+    }
+    if 15 < x.0 {
+        return false;
+    }
+    e.setting <= 15
+}
+
+fn service_in_range(s: Service) -> bool
+    ensures { λ r. ⌜ r ≡ rule.serviceInRange s ⌝ }
+{
+    if 13 < s.channel {
+        return false;
+    }
+    effort_in_range(s.effort)
+}
+
+fn retries_in_range(x: Retries) -> bool
+    ensures { λ r. ⌜ r ≡ rule.retriesInRange x ⌝ }
+{
+    if 15 < x.count {
+        return false;
+    }
+    x.channel <= 13
+}
+
+fn report_in_range(x: Report) -> bool
+    ensures { λ r. ⌜ r ≡ rule.reportInRange x ⌝ }
+{
+    if retries_in_range(x.sending) {
+        if retries_in_range(x.message) {
+            return x.error <= 32;
+        }
+        return false;
+    }
+    false
+}
+
+fn line_in_range(l: Line) -> bool
+    ensures { λ r. ⌜ r ≡ rule.lineInRange l ⌝ }
+{
+    l.count <= 12
+}
+
+// Every number of the state is in its range.
+pub fn in_range(k: Core) -> bool
+    ensures { λ r. ⌜ r ≡ rule.inRange k ⌝ }
+{
+    if report_in_range(k.report) {
+        if line_in_range(k.line) {
+            if reception_in_range(k.reception) {
+                return service_in_range(k.service);
+            }
+            return false;
+        }
+        return false;
+    }
+    false
+}
+
+// ---- reset
+
+// Idle mode, no frame, no service, the registers at their reset values.
+pub fn reset_core() -> Core
+    ensures { λ r. ⌜ r ≡ rule.resetCore ⌝ }
+{
+    Core {
+        activity: in_mode(Mode::Idle, false),
+        report: Map::reset_report(),
+        line: reception::unsettled(),
+        reception: reception::quiet(),
+        service: service::resting(),
+    }
+}
+
+// ---- IDLE, SLEEP, ACTI
+
+// Idle acts: the frame under way is dropped.
+fn idled(k: Core) -> Core
+    ensures { λ r. ⌜ r ≡ rule.idled k ⌝ }
+{
+    let mut t = k;
+    t.activity = in_mode(Mode::Idle, false);
+    t.reception = reception::quiet();
+    t
+}
+
+// A waiting idle acts once there is no service.
+pub fn idle_due(k: Core) -> Core
+    ensures { λ r. ⌜ r ≡ rule.idleDue k ⌝ }
+{
+    let a = k.activity;
+    if a.waiting {
+        if serving(k.service) {
+            return k;
+        }
+        return idled(k);
+    }
+    k
+}
+
+// SLEEP acts at once: service and frame go, registers and flags stay.
+pub fn slept(k: Core) -> Core
+    ensures { λ r. ⌜ r ≡ rule.slept k ⌝ }
+{
+    let mut t = k;
+    t.activity = in_mode(Mode::Asleep, false);
+    t.reception = reception::quiet();
+    t.service = service::resting();
+    t
+}
+
+// IDLE waits for the end of the service; whether it is due is asked afterwards.
+pub fn idle_asked(k: Core) -> Core
+    ensures { λ r. ⌜ r ≡ rule.idleAsked k ⌝ }
+{
+    if is_active(k.activity) {
+        let mut t = k;
+        t.activity = in_mode(Mode::Active, true);
+        return t;
+    }
+    k
+}
+
+// ACTI in active mode only cancels a waiting idle; else twelve recessive slots are wanted.
+pub fn activated(k: Core) -> Core
+    ensures { λ r. ⌜ r ≡ rule.activated k ⌝ }
+{
+    let mut t = k;
+    if is_active(k.activity) {
+        t.activity = in_mode(Mode::Active, false);
+        return t;
+    }
+    t.activity = in_mode(Mode::Active, false);
+    t.line = reception::unsettled();
+    t
+}
