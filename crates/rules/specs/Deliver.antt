@@ -20,11 +20,13 @@ use Rattle.rules.specs.Valid.{high, low, owes, Valid}
 use Rattle.rules.specs.Told.{InBody, InAcknowledge, ToldIn, Told, Whole}
 use Rattle.rules.specs.ToldFrames.{start-long, acknowledge-long, end-long, closing, closing-length, body-opens, acknowledge-same, end-same}
 use Rattle.rules.specs.ToldLaws.{told-silent, told-header, told-good, told-last, told-fault, told-acknowledges}
-use Rattle.rules.specs.Delivery.{deliveryTo, delivered, deliveryOf, memoryStored, memoryDelivered}
+use Rattle.rules.specs.Delivery.{deliveryTo, delivered, deliveryOf, memoryStored, memoryDelivered, reportHeard, reportDelivered, reportStored, withError, withFlags, withMessage, withSending, withReceiveError}
 use Rattle.rules.specs.Attempt.{drivesFrame, judgeSlot, judge, advance}
-use Rattle.rules.specs.Service.{roleOf, withEffort, stopped, endingOf, memoryEnded}
-use Rattle.rules.specs.State.{isActive, inMode, serving, resetCore, idled, idleDue}
-use Rattle.rules.specs.Slots.{heardAs, heard, serviceJudged, receptionJudged, delivers, ending, memoryJudged, coreJudged, followsOn, drivesAs, drives, sampleOf, judgedSlot, sampledSlot, activeSlot}
+use Rattle.rules.specs.Service.{roleOf, withEffort, stopped, endingOf, memoryEnded, reportJudged, reportEnded, reportSending, choose}
+use Rattle.rules.specs.State.{isActive, inMode, serving, resetCore, idled, idleDue, withReport, withService}
+use Rattle.rules.specs.Registers.{BOV}
+use Rattle.rules.specs.declared.Report.{Report}
+use Rattle.rules.specs.Slots.{longest, heardAs, heard, serviceJudged, receptionJudged, delivers, ending, reportAfter, memoryJudged, coreJudged, chooses, choiceMade, startMade, followsOn, drivesAs, drives, sampleOf, judgedSlot, sampledSlot, activeSlot}
 use Rattle.rules.specs.Host.{resetAll}
 use Rattle.rules.specs.Run.{fresh, answered, next}
 use Rattle.rules.specs.Tally.{Tally, none}
@@ -36,7 +38,7 @@ use Rattle.rules.specs.Limits.{Fine}
 use Rattle.rules.specs.Reach.{fine-fresh, fine-next}
 use Rattle.rules.specs.Bound.{good-none}
 use Rattle.rules.specs.Demand3.{Joined, joined-next}
-use Rattle.rules.specs.Delivered.{Log, noLog, storedFrame, received, logNext, taker, hears, Taken, Delivers, role, Heeds, DeliversIn, Owing, Acknowledges, Delivered}
+use Rattle.rules.specs.Delivered.{Log, noLog, storedFrame, received, errorAfter, logNext, taker, hears, Taken, Delivers, role, Heeds, DeliversIn, Owing, Acknowledges, Delivered}
 use Rattle.rules.specs.OwnFrame.{Judged, done, failed, goes, lost, slot-judged}
 use Rattle.rules.specs.Logged.{At, Following, apart, driving, heard-receiver, judge-apart, judge-driving, none-wins, receiving, starting}
 use Rattle.rules.specs.Logged as at
@@ -115,6 +117,37 @@ good-memory m r w = rw (w .count-is) (go (r .winner .matched) (ltb (length (w .f
     go true true = unfold memoryDelivered memoryStored stored storedFrame in rw (w .high-is, w .low-is, w .bytes-are, w .count-is)
     go true false = unfold memoryDelivered in refl
     go false b = unfold memoryDelivered in refl
+
+-- what it does to 0x07
+good-error : (x : Report) (r : Reception) {s : List ℕ} (w : Whole r s) → reportDelivered (deliveryOf hearing.Good r) (reportHeard hearing.Good x) r .error ≡ errorAfter (x .error) (r .winner) (w .frame)
+unfolding deliveryOf deliveryTo delivered fits errorAfter reportHeard
+good-error x r w = rw (w .count-is) (go (r .winner .matched) (ltb (length (w .frame .bytes)) (r .winner .length)))
+  where
+    go : (a b : Bool) → reportDelivered (pick a (pick b effect.Stored effect.Overflowed) effect.Nothing) x r .error ≡ pick a (pick b (x .error) BOV) (x .error)
+    go true true = unfold reportDelivered reportStored withFlags withMessage in refl
+    go true false = unfold reportDelivered withReceiveError withError withFlags in refl
+    go false b = unfold reportDelivered in refl
+
+unjudged-error : (k : Core) (h : Hearing) → stopped (k .service) ≡ Going → reportAfter k Unjudged h .error ≡ reportDelivered (deliveryOf h (k .reception)) (reportHeard h (k .report)) (k .reception) .error
+unfolding reportAfter ending endingOf serviceJudged withEffort advance delivers reportJudged
+unjudged-error k h g = rw g (unfold reportEnded in refl)
+
+-- idle, choice and start leave 0x07
+idle-error : (k : Core) → idleDue k .report .error ≡ k .report .error
+unfolding idleDue idled
+idle-error k =
+    picked (λ (x : Core). x .report .error ≡ k .report .error) (k .activity .waiting) (pick (serving (k .service)) k (idled k)) k
+    (λ e. picked (λ (x : Core). x .report .error ≡ k .report .error) (serving (k .service)) k (idled k) (λ d. refl) (λ d. refl)) (λ e. refl)
+
+choice-error : (m : List ℕ) (k : Core) → choiceMade m k .report .error ≡ k .report .error
+unfolding choiceMade withService withReport reportSending withSending
+choice-error m k =
+    picked (λ (x : Core). x .report .error ≡ k .report .error) (chooses k) (pick (serving (choose m longest)) (withService (withReport k (reportSending (k .report) (choose m longest))) (choose m longest)) k) k
+    (λ e. picked (λ (x : Core). x .report .error ≡ k .report .error) (serving (choose m longest)) (withService (withReport k (reportSending (k .report) (choose m longest))) (choose m longest)) k (λ d. refl) (λ d. refl)) (λ e. refl)
+
+follows-error : (m : List ℕ) (k : Core) → followsOn m k .report .error ≡ k .report .error
+unfolding followsOn startMade withService
+follows-error m k = choice-error m (idleDue k) ∙ idle-error k
 
 -- the mailbox stands behind the channels
 cher-mailbox : (m : List ℕ) (c a : ℕ) → 128 ≤ a → getD (markedCher m c) a 0 ≡ getD m a 0
@@ -269,6 +302,12 @@ module _ (c : Controller) (t : Tally) (levels : ℕ) (y : accepted c (Slot level
   unfolding sampledSlot judgedSlot
   slot-memory = ap (λ (x : Controller). x .memory) slot-next
 
+  slot-error : next c (Slot levels) .core .report .error ≡ reportAfter (c .core) (judge (c .core .service .effort) (sampleOf (c .memory) levels)) (hears c levels) .error
+  unfolding sampledSlot judgedSlot coreJudged
+  slot-error =
+      ap (λ (x : Controller). x .core .report .error) slot-next
+      ∙ follows-error (memoryJudged (c .memory) (c .core) (judge (c .core .service .effort) (sampleOf (c .memory) levels)) (hears c levels)) _
+
   heeds-mailbox : (role c ≡ Receiver → ⊥) → (b : ℕ) → 128 ≤ b → getD (next c (Slot levels) .memory) b 0 ≡ getD (c .memory) b 0
   heeds-mailbox n b i = ap (λ (x : List ℕ). getD x b 0) slot-memory ∙ go (role c) refl
     where
@@ -306,6 +345,13 @@ module _ (c : Controller) (t : Tally) (l : Log) (i : Logs c l) (levels : ℕ) (y
       ∙ ap (λ (w : Verdict). memoryJudged (c .memory) (c .core) w (hears c levels)) (judge-apart (c .core .service .effort) (sampleOf (c .memory) levels) (z .0))
       ∙ unjudged-memory (c .memory) (c .core) (hears c levels) (i .stands .going)
 
+  next-error : next c (Slot levels) .core .report .error ≡ reportDelivered (deliveryOf (hears c levels) (c .core .reception)) (reportHeard (hears c levels) (c .core .report)) (c .core .reception) .error
+  next-error =
+      let z = receiver-is c q in
+      slot-error c t levels y a
+      ∙ ap (λ (w : Verdict). reportAfter (c .core) w (hears c levels) .error) (judge-apart (c .core .service .effort) (sampleOf (c .memory) levels) (z .0))
+      ∙ unjudged-error (c .core) (hears c levels) (i .stands .going)
+
   taken : hears c levels ≡ hearing.Good → Taken c l levels
   taken h =
       let w = told-good (c .core .reception) (l .samples) told (sampleOf (c .memory) levels) (sample-small (c .memory) levels) (sym hears-is ∙ h) in
@@ -318,6 +364,9 @@ module _ (c : Controller) (t : Tally) (l : Log) (i : Logs c l) (levels : ℕ) (y
         memory =
             next-memory ∙ ap (λ (x : Hearing). memoryDelivered (deliveryOf x (c .core .reception)) (c .memory) (c .core .reception)) h
             ∙ good-memory (c .memory) (c .core .reception) w ∙ ap (λ (x : Winner). received (c .memory) x (w .frame)) n;
+        error =
+            next-error ∙ ap (λ (x : Hearing). reportDelivered (deliveryOf x (c .core .reception)) (reportHeard x (c .core .report)) (c .core .reception) .error) h
+            ∙ good-error (c .core .report) (c .core .reception) w ∙ ap (λ (x : Winner). errorAfter (c .core .report .error) x (w .frame)) n;
       }
 
   delivers-slot : Delivers c l levels

@@ -1,5 +1,5 @@
 -- What reaches the mailbox, and what the model acknowledges (01, Receiving): one claim about the list of events.
---   received == what a frame does to the memory map        Log, logNext == the samples since the frame's start, and the memory map that names who takes it
+--   received, errorAfter == what a frame does to the memory map, and to 0x07        Log, logNext == the samples since the frame's start, and the memory map that names who takes it
 --   Heeds == what holds of a slot, whoever sends        Delivers == what holds of a slot of another module's frame
 --   Acknowledges == what holds where the model drives an acknowledge
 --   Delivered == what holds of a list of events, from a controller and a log on
@@ -11,6 +11,7 @@ use lib.Dec.{eqb, ltb}
 use lib.ListN.{length, getD, take}
 use Rattle.line.specs.Bits.{pick}
 use Rattle.line.specs.Frame.{Frame, Fits, slots}
+use Rattle.rules.specs.Registers.{BOV}
 use Rattle.rules.specs.Channels.{winnerFor}
 use Rattle.rules.specs.Mailbox.{statusByte, laidFrom, retagged, markedCher, markedChrx}
 use Rattle.rules.specs.Reception.{takesStart, underWay}
@@ -42,6 +43,10 @@ storedFrame m w f =
 -- nothing where no channel takes it; "It fits when n + 1 is at most M_L", else CHER
 unfoldable pub received : List ℕ → Winner → Frame → List ℕ
 received m w f = pick (w .matched) (pick (ltb (length (f .bytes)) (w .length)) (storedFrame m w f) (markedCher m (w .channel))) m
+
+-- 0x07: BOV where it is "otherwise valid but doesn't fit"; else it stays
+unfoldable pub errorAfter : ℕ → Winner → Frame → ℕ
+errorAfter x w f = pick (w .matched) (pick (ltb (length (f .bytes)) (w .length)) x BOV) x
 
 -- ---- the log
 
@@ -98,6 +103,7 @@ pub record Taken (c : Controller) (l : Log) (levels : ℕ) : Type 0 where
   pub whole : l .samples ++ (sampleOf (c .memory) levels ∷ []) ≡ slots frame
   pub valid : Valid (taker l frame) frame
   pub memory : next c (Slot levels) .memory ≡ received (c .memory) (taker l frame) frame
+  pub error : next c (Slot levels) .core .report .error ≡ errorAfter (c .core .report .error) (taker l frame) frame
 
 -- a slot of a frame that another module sends
 pub record Delivers (c : Controller) (l : Log) (levels : ℕ) : Type 0 where
