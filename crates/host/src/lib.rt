@@ -75,7 +75,7 @@ fn flags_cleared(k: Core, v: u8) -> Core
     ensures { λ r. ⌜ r ≡ rule.flagsCleared k v ⌝ }
 {
     let mut x = k.report;
-    x.flags = registers::cleared(x.flags, v);
+    x.flags = status::cleared(x.flags, v);
     let mut t = k;
     t.report = x;
     t
@@ -110,10 +110,10 @@ fn service_asked(s: Service, address: usize, v: u8) -> Service
 fn stopped_core(k: Core, s: Service) -> Core
     ensures { λ r. ⌜ r ≡ rule.stoppedCore k s ⌝ }
 {
-    let x = service::stopped(s);
+    let x = ending::stopped(s);
     let mut t = k;
-    t.report = service::report_ended(x, k.report, s);
-    t.service = service::settled(x, s);
+    t.report = ending::report_ended(x, k.report, s);
+    t.service = ending::settled(x, s);
     state::idle_due(t)
 }
 
@@ -122,7 +122,7 @@ fn byte_written(m: &mut [u8; 256], k: Core, address: usize, v: u8) -> Core
 {
     let s = service_asked(k.service, address, v);
     keep_byte(m, address, v);
-    service::end_memory(m, service::stopped(s), k.service.channel);
+    ending::end_memory(m, ending::stopped(s), k.service.channel);
     stopped_core(core_written(k, address, v), s)
 }
 
@@ -152,7 +152,7 @@ fn line_status_of(k: Core) -> u8
     ensures { λ r. ⌜ r ≡ rule.lineStatusOf k ⌝ }
 {
     let r = k.reception;
-    registers::line_status(
+    status::line_status(
         state::is_asleep(k.activity),
         state::is_idle(k.activity),
         state::serving(k.service),
@@ -169,15 +169,15 @@ fn status_read(k: Core, address: usize) -> u8
         return line_status_of(k);
     }
     if address == Map::TRANSMISSION_STATUS {
-        return registers::retries_byte(x.sending);
+        return status::retries_byte(x.sending);
     }
     if address == Map::LAST_MESSAGE_STATUS {
-        return registers::retries_byte(x.message);
+        return status::retries_byte(x.message);
     }
     if address == Map::LAST_ERROR_STATUS {
         return x.error;
     }
-    registers::interrupt_status(x.flags)
+    status::interrupt_status(x.flags)
 }
 
 fn byte_read(m: &[u8; 256], k: Core, address: usize) -> u8
@@ -323,5 +323,5 @@ pub fn interrupt_on(m: &[u8; 256], k: Core) -> bool
     ensures { λ r. ⌜ r ≡ rule.interruptLine (answers.controller (now (m .entry)) k) ⌝ }
 {
     let x = k.report;
-    registers::asserted(x.flags, m[Map::INTERRUPT_ENABLE])
+    status::asserted(x.flags, m[Map::INTERRUPT_ENABLE])
 }

@@ -86,7 +86,7 @@ pub fn quiet() -> Reception
         nibbles: 0,
         bits: 0,
         bytes: [0u8; 34],
-        winner: channels::nobody(),
+        winner: matching::nobody(),
     }
 }
 
@@ -304,7 +304,7 @@ pub fn named(r: Reception, m: &[u8; 256]) -> Reception
     ensures { λ t. ⌜ t ≡ rule.named r (now (m .entry)) ⌝ }
 {
     let b = r.bytes;
-    let w = channels::winner_for(m, b[0], b[1]);
+    let w = matching::winner_for(m, b[0], b[1]);
     let mut t = r;
     t.winner = w;
     t

@@ -1,7 +1,6 @@
 // The control registers (01, Memory map; 000, Control and Status Registers).
 // 0x00, 0x01, 0x02 and 0x0A stand in the memory map. 0x04 to 0x07 and 0x09 are kept as bools and numbers; their byte is made when it is read.
 ghost use mathlib.Core.Path.{_≡_};
-ghost use Prim.Native.Nat.{_≤_};
 ghost use mathlib.Core.Bool.{true, false};
 ghost use Rattle.rules.specs.Registers as rule;
 ghost use Rattle.rules.specs.Mailbox as memory;
@@ -142,14 +141,14 @@ impl Map {
     }
 
     // 0x00: IVRX.
-    pub fn inverts_receive(control: u8) -> bool
+    fn inverts_receive(control: u8) -> bool
         ensures { λ r. ⌜ r ≡ rule.invertsReceive control ⌝ }
     {
         control % 2 == 1
     }
 
     // 0x00: IVTX.
-    pub fn inverts_transmit(control: u8) -> bool
+    fn inverts_transmit(control: u8) -> bool
         ensures { λ r. ⌜ r ≡ rule.invertsTransmit control ⌝ }
     {
         control / 2 % 2 == 1
@@ -166,11 +165,11 @@ impl Map {
     pub fn autonomous(control: u8) -> bool
         ensures { λ r. ⌜ r ≡ rule.autonomous control ⌝ }
     {
-        control % 2 == 1
+        control % 2 == 1 // MT
     }
 
     // 0x02: the input that Ma and Mb select; automatic listens to RxD0.
-    pub fn selected_input(control: u8) -> u8
+    fn selected_input(control: u8) -> u8
         ensures { λ r. ⌜ r ≡ rule.selectedInput control ⌝ }
     {
         let mode = control / 4 % 4;
@@ -278,95 +277,10 @@ impl Code {
     pub const BOV: u8 = 32;
 }
 
-// ---- the registers that the controller writes
-
-// A flag as a bit.
-fn bit(flag: bool) -> u8
-    ensures value { λ r. ⌜ r ≡ rule.bit flag ⌝ }
-    ensures range { λ r. ⌜ r ≤ 1 ⌝ }
-{
-    if flag {
-        return 1;
-    }
-    0
-}
-
-// The byte of 0x04: SPG, IDG, TXG, RXG.
-pub fn line_status(asleep: bool, idle: bool, txg: bool, rxg: bool) -> u8
-    ensures { λ r. ⌜ r ≡ rule.lineStatus asleep idle txg rxg ⌝ }
-{
-    bit(asleep) * 64 + bit(idle) * 32 + bit(txg) * 2 + bit(rxg)
-}
-
-// The byte of 0x05 and of 0x06.
-pub fn retries_byte(r: Retries) -> u8
-    ensures { λ byte. ⌜ byte ≡ rule.retriesByte r ⌝ }
-{
-    r.count % 16 * 16 + r.channel % 16
-}
-
-// The byte of 0x09: RST, TE, TOK, RE, ROK, RNOK.
-pub fn interrupt_status(f: Flags) -> u8
-    ensures { λ r. ⌜ r ≡ rule.interruptStatus f ⌝ }
-{
-    bit(f.rst) * 128
-        + bit(f.te) * 16
-        + bit(f.tok) * 8
-        + bit(f.re) * 4
-        + bit(f.rok) * 2
-        + bit(f.rnok)
-}
-
-// A status bit, cleared where it is named.
-fn unless(flag: bool, named: bool) -> bool
-    ensures { λ r. ⌜ r ≡ rule.unless flag named ⌝ }
-{
-    if named {
-        return false;
-    }
-    flag
-}
-
-// The status bits once a value is written to 0x0B.
-pub fn cleared(f: Flags, value: u8) -> Flags
-    ensures { λ r. ⌜ r ≡ rule.cleared f value ⌝ }
-{
-    Flags {
-        rst: unless(f.rst, value / 128 == 1),
-        te: unless(f.te, value / 16 % 2 == 1),
-        tok: unless(f.tok, value / 8 % 2 == 1),
-        re: unless(f.re, value / 4 % 2 == 1),
-        rok: unless(f.rok, value / 2 % 2 == 1),
-        rnok: unless(f.rnok, value % 2 == 1),
-    }
-}
-
-// The interrupt line: status and enable share a one.
-pub fn asserted(f: Flags, enable: u8) -> bool
-    ensures { λ r. ⌜ r ≡ rule.asserted f enable ⌝ }
-{
-    if (f.rst) & (enable / 128 == 1) {
-        return true;
-    }
-    if (f.te) & (enable / 16 % 2 == 1) {
-        return true;
-    }
-    if (f.tok) & (enable / 8 % 2 == 1) {
-        return true;
-    }
-    if (f.re) & (enable / 4 % 2 == 1) {
-        return true;
-    }
-    if (f.rok) & (enable / 2 % 2 == 1) {
-        return true;
-    }
-    (f.rnok) & (enable % 2 == 1)
-}
-
 // ---- levels
 
 // The level of an input among RxD0 + 2 RxD1 + 4 RxD2.
-pub fn input_level(levels: u16, input: u8) -> u8
+fn input_level(levels: u16, input: u8) -> u8
     ensures { λ r. ⌜ r ≡ rule.inputLevel levels input ⌝ }
 {
     if input == 1 {
@@ -379,7 +293,7 @@ pub fn input_level(levels: u16, input: u8) -> u8
 }
 
 // A level, inverted or not.
-pub fn inverted(level: u8, inverts: bool) -> u8
+fn inverted(level: u8, inverts: bool) -> u8
     ensures { λ r. ⌜ r ≡ rule.inverted level inverts ⌝ }
 {
     if inverts {

@@ -74,8 +74,8 @@ fn report_after(k: Core, w: Verdict, h: Hearing, s: Service) -> Report
     let d = delivers(w, h, k.reception);
     let a = delivery::report_heard(h, k.report);
     let b = delivery::report_delivered(d, a, k.reception);
-    let c = service::report_judged(w, b, s);
-    service::report_ended(service::ending_of(w, s), c, s)
+    let c = ending::report_judged(w, b, s);
+    ending::report_ended(ending::ending_of(w, s), c, s)
 }
 
 // The store or CHER first, then the marks of a service that ends.
@@ -84,7 +84,7 @@ fn judge_memory(m: &mut [u8; 256], k: Core, w: Verdict, h: Hearing, x: Ending)
 {
     let d = delivers(w, h, k.reception);
     delivery::deliver(m, d, k.reception);
-    service::end_memory(m, x, k.service.channel);
+    ending::end_memory(m, x, k.service.channel);
 }
 
 // Memory map and state with the effects of a sample; e is the effort with the sample counted.
@@ -95,13 +95,13 @@ fn judged(m: &mut [u8; 256], k: Core, w: Verdict, e: Effort, h: Hearing, v: u8) 
 {
     let mut s = k.service;
     s.effort = e;
-    let x = service::ending_of(w, s);
+    let x = ending::ending_of(w, s);
     judge_memory(m, k, w, h, x);
     let mut t = k;
     t.report = report_after(k, w, h, s);
     t.line = hearing::line_after(h, k.line, v);
     t.reception = reception_judged(m, h, k.reception, v);
-    t.service = service::settled(x, s);
+    t.service = ending::settled(x, s);
     t
 }
 
@@ -156,7 +156,7 @@ fn other_slot(m: &mut [u8; 256], k: Core, v: u8) -> Core
     ensures core { λ r. ⌜ r ≡ ordinary.coreAfter (now (m .entry)) k v ⌝ }
 {
     let h = heard(k, v);
-    if ordinary(h, service::stopped(k.service)) {
+    if ordinary(h, ending::stopped(k.service)) {
         return passed(m, k, h, v);
     }
     judged(m, k, Verdict::Unjudged, k.service.effort, h, v)
@@ -199,7 +199,7 @@ fn choice_made(m: &[u8; 256], k: Core) -> Core
         let s = service::choose(m, LONGEST);
         if state::serving(s) {
             let mut t = k;
-            t.report = service::report_sending(k.report, s);
+            t.report = ending::report_sending(k.report, s);
             t.service = s;
             return t;
         }
@@ -252,7 +252,7 @@ fn drives(k: Core) -> u8
     match x {
         Role::Nobody => 1,
         Role::Receiver => hearing::receiver_level(k.reception),
-        Role::Sender => attempt::sender_level(k.service.effort),
+        Role::Sender => driver::level_at(k.service.effort.frame, k.service.effort.progress.at),
     }
 }
 

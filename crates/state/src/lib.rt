@@ -174,7 +174,7 @@ pub fn reset_core() -> Core
         report: Map::reset_report(),
         line: reception::unsettled(),
         reception: reception::quiet(),
-        service: service::resting(),
+        service: ending::resting(),
     }
 }
 
@@ -211,7 +211,7 @@ pub fn slept(k: Core) -> Core
     let mut t = k;
     t.activity = in_mode(Mode::Asleep, false);
     t.reception = reception::quiet();
-    t.service = service::resting();
+    t.service = ending::resting();
     t
 }
 

@@ -1,6 +1,6 @@
 use borrow.Author.Needs.{needs}
 use Rattle.rules.specs.Attempt.{advance}
-use Rattle.attempt.specs.Driver.{following}
+use Rattle.attempt.specs.Following.{following}
 use Rattle.attempt.proofs.advance.Statement.{statement}
 use Rattle.attempt.proofs.advance.Tie as tie
 
@@ -8,21 +8,21 @@ pub advance-spec : {M : Type 1} → statement M
 unfolding advance following
 advance-spec =
     tie.close (tie.spec
-    (λ c. search needs)
-    (λ c. search needs)
+    (λ c. c .match .keys1)
+    (λ c. c .match .keys2)
     (λ c. let h = rw (c .before .enum-told2 .given .1) at (c .before .before .before .before .pre) in search needs)
     (λ c κs. tt)
     (λ c κs. tt)
     (λ c κs. tt)
-    (λ c. search needs)
+    (λ c. c .match .keys3)
     (λ c κs. tt)
     (λ c κs. tt)
     (λ c κs. tt)
-    (λ c. search needs)
+    (λ c. c .match .keys4)
     (λ c κs. tt)
     (λ c κs. tt)
     (λ c κs. tt)
-    (λ c. search needs)
+    (λ c. c .match .keys5)
     (λ c κs. tt)
     (λ c κs. tt)
     (λ c κs. tt)

@@ -1,4 +1,3 @@
-use borrow.Author.Needs.{needs}
 use borrow.Author.Tests.{eq-eqb, ne-eqb}
 use Rattle.rules.specs.Attempt.{difference}
 use Rattle.attempt.proofs.difference.Statement.{statement}
@@ -8,9 +7,9 @@ pub difference-spec : {M : Type 1} → statement M
 unfolding difference
 difference-spec =
     tie.close (tie.spec
-    (λ c κs. search needs)
-    (λ c κs. search needs)
-    (λ c κs. search needs)
+    (λ c κs. tt)
+    (λ c κs. tt)
+    (λ c κs. tt)
     (λ c. simp (eq-eqb _ _ (c .before .before .if1 .taken), ← (c .recessive-lost .ensures), ← (c .before .half-of .ensures), ← (c .before .before .before .part-of .ensures)))
-    (λ c κs. search needs)
+    (λ c κs. tt)
     (λ c. simp (ne-eqb _ _ (c .before .if1 .left), ← (c .violated .ensures), ← (c .before .before .part-of .ensures))))

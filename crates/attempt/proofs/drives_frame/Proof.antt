@@ -1,4 +1,3 @@
-use borrow.Author.Needs.{needs}
 use Rattle.rules.specs.Attempt.{isDriving, drivesFrame}
 use Rattle.attempt.proofs.drives_frame.Statement.{statement}
 use Rattle.attempt.proofs.drives_frame.Tie as tie
@@ -7,10 +6,10 @@ pub drives-frame-spec : {M : Type 1} → statement M
 unfolding isDriving drivesFrame
 drives-frame-spec =
     tie.close (tie.spec
-    (λ c. search needs)
-    (λ c. search needs)
-    (λ c. search needs)
-    (λ c. search needs)
+    (λ c. c .match .keys1)
+    (λ c. c .match .keys2)
+    (λ c. c .match .keys3)
+    (λ c. c .match .keys4)
     (λ c. simp (c .enum-told .given .1))
     (λ c. simp (c .enum-told2 .given .1))
     (λ c. simp (c .enum-told3 .given .1))

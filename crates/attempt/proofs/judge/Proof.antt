@@ -1,4 +1,3 @@
-use borrow.Author.Needs.{needs}
 use Rattle.rules.specs.Attempt.{judge}
 use Rattle.attempt.proofs.judge.Statement.{statement}
 use Rattle.attempt.proofs.judge.Tie as tie
@@ -7,7 +6,7 @@ pub judge-spec : {M : Type 1} → statement M
 unfolding judge
 judge-spec =
     tie.close (tie.spec
-    (λ c κs. search needs)
-    (λ c κs. search needs)
+    (λ c κs. tt)
+    (λ c κs. tt)
     (λ c. simp (c .before .before .if1 .taken, ← (c .judge-slot .ensures), ← (c .before .before .before .drives-frame .ensures)))
     (λ c. simp (c .if1 .left, ← (c .before .drives-frame .ensures))))

@@ -9,13 +9,13 @@ pub judge-slot-spec : {M : Type 1} → statement M
 unfolding judgeSlot size
 judge-slot-spec =
     tie.close (tie.spec
-    (λ c κs. search needs)
+    (λ c κs. tt)
     (λ c. search needs)
     (λ c. search needs)
     (λ c. search needs)
     (λ c. search needs)
     (λ c. simp (lt-ltb _ _ (c .if2 .taken), eq-eqb _ _ (c .before .before .if1 .taken), ← (c .before .before .before .due .ensures)))
     (λ c. simp (le-ltb _ _ (c .if2 .left), eq-eqb _ _ (c .before .before .if1 .taken), ← (c .before .before .before .due .ensures)))
-    (λ c κs. search needs)
-    (λ c κs. search needs)
+    (λ c κs. tt)
+    (λ c κs. tt)
     (λ c. simp (ne-eqb _ _ (c .before .before .if1 .left), ← (c .difference .ensures), ← (c .before .level-at .ensures), ← (c .before .before .before .due .ensures))))

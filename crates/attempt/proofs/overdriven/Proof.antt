@@ -1,4 +1,3 @@
-use borrow.Author.Needs.{needs}
 use Rattle.rules.specs.Attempt.{overdriven}
 use Rattle.attempt.proofs.overdriven.Statement.{statement}
 use Rattle.attempt.proofs.overdriven.Tie as tie
@@ -7,15 +6,15 @@ pub overdriven-spec : {M : Type 1} → statement M
 unfolding overdriven
 overdriven-spec =
     tie.close (tie.spec
-    (λ c. search needs)
-    (λ c. search needs)
-    (λ c. search needs)
-    (λ c. search needs)
-    (λ c. search needs)
-    (λ c. search needs)
-    (λ c. search needs)
-    (λ c. search needs)
-    (λ c. search needs)
+    (λ c. c .match .keys1)
+    (λ c. c .match .keys2)
+    (λ c. c .match .keys3)
+    (λ c. c .match .keys4)
+    (λ c. c .match .keys5)
+    (λ c. c .match .keys6)
+    (λ c. c .match .keys7)
+    (λ c. c .match .keys8)
+    (λ c. c .match .keys9)
     (λ c. simp (c .enum-told .given .1))
     (λ c. simp (c .enum-told2 .given .1))
     (λ c. simp (c .enum-told3 .given .1))

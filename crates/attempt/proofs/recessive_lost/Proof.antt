@@ -1,4 +1,3 @@
-use borrow.Author.Needs.{needs}
 use Rattle.rules.specs.Attempt.{recessiveLost}
 use Rattle.attempt.proofs.recessive_lost.Statement.{statement}
 use Rattle.attempt.proofs.recessive_lost.Tie as tie
@@ -7,12 +6,12 @@ pub recessive-lost-spec : {M : Type 1} → statement M
 unfolding recessiveLost
 recessive-lost-spec =
     tie.close (tie.spec
-    (λ c. search needs)
-    (λ c κs. search needs)
-    (λ c. search needs)
-    (λ c κs. search needs)
-    (λ c. search needs)
-    (λ c κs. search needs)
+    (λ c. c .match .keys1)
+    (λ c κs. tt)
+    (λ c. c .match .keys2)
+    (λ c κs. tt)
+    (λ c. c .match .keys3)
+    (λ c κs. tt)
     (λ c. simp (← (c .overdriven .ensures), c .before .enum-told .given .1))
     (λ c. simp (← (c .overdriven2 .ensures), c .before .enum-told2 .given .1))
     (λ c. simp (← (c .violated .ensures), c .before .enum-told3 .given .1)))

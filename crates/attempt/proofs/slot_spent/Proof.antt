@@ -1,4 +1,3 @@
-use borrow.Author.Needs.{needs}
 use Rattle.rules.specs.Attempt.{slotSpent}
 use Rattle.attempt.proofs.slot_spent.Statement.{statement}
 use Rattle.attempt.proofs.slot_spent.Tie as tie
@@ -7,5 +6,5 @@ pub slot-spent-spec : {M : Type 1} → statement M
 unfolding slotSpent
 slot-spent-spec =
     tie.close (tie.spec
-    (λ c κs. search needs)
+    (λ c κs. tt)
     (λ c. simp (← (c .more-slots .ensures))))

@@ -1,4 +1,3 @@
-use borrow.Author.Needs.{needs}
 use mathlib.Core.Path.{refl}
 use borrow.Author.Tests.{lt-ltb, le-ltb, le-leb, lt-leb, eq-eqb, ne-eqb}
 use Rattle.rules.specs.Host.{interruptLine}
@@ -9,5 +8,5 @@ pub interrupt-spec : {M : Type 1} → statement M
 unfolding interruptLine
 interrupt-spec =
     tie.close (tie.spec
-    (λ c κs. search needs)
+    (λ c κs. tt)
     (λ c. simp (← (c .interrupt-on .ensures))))

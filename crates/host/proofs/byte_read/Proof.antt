@@ -9,8 +9,8 @@ pub byte-read-spec : {M : Type 1} → statement M
 unfolding byteRead
 byte-read-spec =
     tie.close (tie.spec
-    (λ c κs. search needs)
-    (λ c κs. search needs)
+    (λ c κs. tt)
+    (λ c κs. tt)
     (λ c. simp (c .before .if1 .taken, ← (c .status-read .ensures), ← (c .before .before .read-only .ensures)))
     (λ c. search needs)
     (λ c. simp (c .before .if1 .left, ← (c .before .before .read-only .ensures))))

@@ -1,4 +1,3 @@
-use borrow.Author.Needs.{needs}
 use mathlib.Core.Path.{refl}
 use borrow.Author.Tests.{lt-ltb, le-ltb, le-leb, lt-leb, eq-eqb, ne-eqb}
 use Rattle.rules.specs.Host.{byteWritten, keptByte}
@@ -11,10 +10,10 @@ pub byte-written-spec : {M : Type 1} → statement M
 unfolding byteWritten keptByte memoryEnded markedChtx markedCher
 byte-written-spec =
     tie.close (tie.spec
-    (λ c κs. search needs)
-    (λ c κs. search needs)
-    (λ c κs. search needs)
-    (λ c κs. search needs)
-    (λ c κs. search needs)
-    (λ c κs. search needs)
+    (λ c κs. tt)
+    (λ c κs. tt)
+    (λ c κs. tt)
+    (λ c κs. tt)
+    (λ c κs. tt)
+    (λ c κs. tt)
     (λ c. simp (← (c .stopped-core .ensures), ← (c .before .core-written .ensures), ← (c .before .before .end-memory .ensures), ← (c .before .before .before .stopped .ensures), ← (c .before .before .before .before .before .keep-byte .ensures), ← (c .before .before .before .before .before .before .before .service-asked .ensures))))

@@ -1,4 +1,3 @@
-use borrow.Author.Needs.{needs}
 use mathlib.Core.Path.{refl}
 use borrow.Author.Tests.{lt-ltb, le-ltb, le-leb, lt-leb, eq-eqb, ne-eqb}
 use Rattle.rules.specs.Host.{flagsCleared}
@@ -11,5 +10,5 @@ pub flags-cleared-spec : {M : Type 1} → statement M
 unfolding flagsCleared withReport withFlags
 flags-cleared-spec =
     tie.close (tie.spec
-    (λ c κs. search needs)
+    (λ c κs. tt)
     (λ c. simp (← (c .cleared .ensures))))

@@ -1,4 +1,3 @@
-use borrow.Author.Needs.{needs}
 use mathlib.Core.Path.{refl}
 use borrow.Author.Tests.{lt-ltb, le-ltb, le-leb, lt-leb, eq-eqb, ne-eqb}
 use Rattle.rules.specs.Answers.{answerLent, number, refusedBy, valueOf}
@@ -11,10 +10,10 @@ pub host-write-on-spec : {M : Type 1} → statement M
 unfolding answerLent number refusedBy valueOf hostWrite accept refuse accessRefused writeRefused
 host-write-on-spec =
     tie.close (tie.spec
-    (λ c κs. search needs)
-    (λ c κs. search needs)
+    (λ c κs. tt)
+    (λ c κs. tt)
     (λ c. simp (c .if2 .taken, c .before .before .if1 .taken, ← (c .before .is-asleep .ensures), ← (c .before .before .before .in-range .ensures)))
     (λ c. simp (lt-ltb _ _ (c .if3 .taken), c .before .if2 .left, c .before .before .before .if1 .taken, ← (c .before .before .is-asleep .ensures), ← (c .before .before .before .before .in-range .ensures)))
-    (λ c κs. search needs)
+    (λ c κs. tt)
     (λ c. simp (le-ltb _ _ (c .before .before .if3 .left), c .before .before .before .if2 .left, c .before .before .before .before .before .if1 .taken, ← (c .write-on .ensures), ← (c .before .before .before .before .is-asleep .ensures), ← (c .before .before .before .before .before .before .in-range .ensures)))
     (λ c. simp (c .if1 .left, ← (c .before .in-range .ensures))))

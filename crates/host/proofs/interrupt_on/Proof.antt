@@ -10,5 +10,5 @@ unfolding interruptLine
 interrupt-on-spec =
     tie.close (tie.spec
     (λ c. search needs)
-    (λ c κs. search needs)
+    (λ c κs. tt)
     (λ c. simp (← (c .asserted .ensures))))

@@ -9,7 +9,7 @@ pub keep-byte-spec : {M : Type 1} → statement M
 unfolding keptByte
 keep-byte-spec =
     tie.close (tie.spec
-    (λ c κs. search needs)
+    (λ c κs. tt)
     (λ c. simp (c .if1 .taken, ← (c .before .write-only .ensures)))
     (λ c. search needs)
     (λ c. simp (c .if1 .left, ← (c .before .write-only .ensures))))

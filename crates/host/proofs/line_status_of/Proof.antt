@@ -1,4 +1,3 @@
-use borrow.Author.Needs.{needs}
 use mathlib.Core.Path.{refl}
 use borrow.Author.Tests.{lt-ltb, le-ltb, le-leb, lt-leb, eq-eqb, ne-eqb}
 use Rattle.rules.specs.Host.{lineStatusOf}
@@ -9,9 +8,9 @@ pub line-status-of-spec : {M : Type 1} → statement M
 unfolding lineStatusOf
 line-status-of-spec =
     tie.close (tie.spec
-    (λ c κs. search needs)
-    (λ c κs. search needs)
-    (λ c κs. search needs)
-    (λ c κs. search needs)
-    (λ c κs. search needs)
+    (λ c κs. tt)
+    (λ c κs. tt)
+    (λ c κs. tt)
+    (λ c κs. tt)
+    (λ c κs. tt)
     (λ c. simp (← (c .line-status .ensures), ← (c .before .under-way .ensures), ← (c .before .before .serving .ensures), ← (c .before .before .before .is-idle .ensures), ← (c .before .before .before .before .is-asleep .ensures))))

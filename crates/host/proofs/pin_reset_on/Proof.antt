@@ -1,4 +1,3 @@
-use borrow.Author.Needs.{needs}
 use mathlib.Core.Path.{refl}
 use borrow.Author.Tests.{lt-ltb, le-ltb, le-leb, lt-leb, eq-eqb, ne-eqb}
 use Rattle.rules.specs.Answers.{answerLent, number, refusedBy, valueOf}
@@ -11,7 +10,7 @@ pub pin-reset-on-spec : {M : Type 1} → statement M
 unfolding answerLent number refusedBy valueOf pinReset accept refuse resetAll
 pin-reset-on-spec =
     tie.close (tie.spec
-    (λ c κs. search needs)
-    (λ c κs. search needs)
+    (λ c κs. tt)
+    (λ c κs. tt)
     (λ c. simp (c .before .before .if1 .taken, ← (c .reset .ensures .0), ← (c .reset .ensures .1), ← (c .before .before .before .in-range .ensures)))
     (λ c. simp (c .if1 .left, ← (c .before .in-range .ensures))))

@@ -1,4 +1,3 @@
-use borrow.Author.Needs.{needs}
 use mathlib.Core.Path.{refl}
 use borrow.Author.Tests.{lt-ltb, le-ltb, le-leb, lt-leb, eq-eqb, ne-eqb}
 use Rattle.rules.specs.Answers.{answerLent, number, refusedBy, valueOf}
@@ -11,9 +10,9 @@ pub read-on-spec : {M : Type 1} → statement M
 unfolding answerLent number refusedBy valueOf readRefused byteRead accept refuse
 read-on-spec =
     tie.close (tie.spec
-    (λ c κs. search needs)
+    (λ c κs. tt)
     (λ c. simp (c .if1 .taken, ← (c .before .write-only .ensures)))
-    (λ c κs. search needs)
+    (λ c κs. tt)
     (λ c. simp (c .if2 .taken, c .before .before .if1 .left, ← (c .before .reserved .ensures), ← (c .before .before .before .write-only .ensures)))
-    (λ c κs. search needs)
+    (λ c κs. tt)
     (λ c. simp (c .before .if2 .left, c .before .before .before .if1 .left, ← (c .byte-read .ensures), ← (c .before .before .reserved .ensures), ← (c .before .before .before .before .write-only .ensures))))

@@ -1,4 +1,3 @@
-use borrow.Author.Needs.{needs}
 use mathlib.Core.Path.{refl}
 use borrow.Author.Tests.{lt-ltb, le-ltb, le-leb, lt-leb, eq-eqb, ne-eqb}
 use Rattle.rules.specs.Host.{resets}
@@ -9,6 +8,6 @@ pub resets-spec : {M : Type 1} → statement M
 unfolding resets
 resets-spec =
     tie.close (tie.spec
-    (λ c κs. search needs)
+    (λ c κs. tt)
     (λ c. simp (eq-eqb _ _ (c .before .if1 .taken), ← (c .asks-reset .ensures)))
     (λ c. simp (ne-eqb _ _ (c .if1 .left))))

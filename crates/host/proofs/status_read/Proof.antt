@@ -1,4 +1,3 @@
-use borrow.Author.Needs.{needs}
 use mathlib.Core.Path.{refl}
 use borrow.Author.Tests.{lt-ltb, le-ltb, le-leb, lt-leb, eq-eqb, ne-eqb}
 use Rattle.rules.specs.Host.{statusRead}
@@ -9,12 +8,12 @@ pub status-read-spec : {M : Type 1} → statement M
 unfolding statusRead
 status-read-spec =
     tie.close (tie.spec
-    (λ c κs. search needs)
+    (λ c κs. tt)
     (λ c. simp (eq-eqb _ _ (c .before .if1 .taken), ← (c .line-status-of .ensures)))
-    (λ c κs. search needs)
+    (λ c κs. tt)
     (λ c. simp (eq-eqb _ _ (c .before .if2 .taken), ne-eqb _ _ (c .before .before .if1 .left), ← (c .retries-byte .ensures)))
-    (λ c κs. search needs)
+    (λ c κs. tt)
     (λ c. simp (eq-eqb _ _ (c .before .if3 .taken), ne-eqb _ _ (c .before .before .if2 .left), ne-eqb _ _ (c .before .before .before .if1 .left), ← (c .retries-byte2 .ensures)))
     (λ c. simp (eq-eqb _ _ (c .if4 .taken), ne-eqb _ _ (c .before .if3 .left), ne-eqb _ _ (c .before .before .if2 .left), ne-eqb _ _ (c .before .before .before .if1 .left)))
-    (λ c κs. search needs)
+    (λ c κs. tt)
     (λ c. simp (ne-eqb _ _ (c .before .if4 .left), ne-eqb _ _ (c .before .before .if3 .left), ne-eqb _ _ (c .before .before .before .if2 .left), ne-eqb _ _ (c .before .before .before .before .if1 .left), ← (c .interrupt-status .ensures))))

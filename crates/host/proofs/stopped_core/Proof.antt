@@ -1,4 +1,3 @@
-use borrow.Author.Needs.{needs}
 use mathlib.Core.Path.{refl}
 use borrow.Author.Tests.{lt-ltb, le-ltb, le-leb, lt-leb, eq-eqb, ne-eqb}
 use Rattle.rules.specs.Host.{stoppedCore}
@@ -10,8 +9,8 @@ pub stopped-core-spec : {M : Type 1} → statement M
 unfolding stoppedCore withService withReport
 stopped-core-spec =
     tie.close (tie.spec
-    (λ c κs. search needs)
-    (λ c κs. search needs)
-    (λ c κs. search needs)
-    (λ c κs. search needs)
+    (λ c κs. tt)
+    (λ c κs. tt)
+    (λ c κs. tt)
+    (λ c κs. tt)
     (λ c. simp (← (c .idle-due .ensures), ← (c .before .settled .ensures), ← (c .before .before .report-ended .ensures), ← (c .before .before .before .stopped .ensures))))

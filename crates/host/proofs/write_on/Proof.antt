@@ -12,12 +12,12 @@ unfolding answerLent number refusedBy valueOf writeRefused written resetAll acce
 write-on-spec =
     tie.close (tie.spec
     (λ c. simp (lt-ltb _ _ (c .if1 .taken)))
-    (λ c κs. search needs)
+    (λ c κs. tt)
     (λ c. simp (c .if2 .taken, le-ltb _ _ (c .before .before .if1 .left), ← (c .before .read-only .ensures)))
-    (λ c κs. search needs)
+    (λ c κs. tt)
     (λ c. simp (c .if3 .taken, c .before .before .if2 .left, le-ltb _ _ (c .before .before .before .before .if1 .left), ← (c .before .reserved .ensures), ← (c .before .before .before .read-only .ensures)))
     (λ c. search needs)
-    (λ c κs. search needs)
-    (λ c κs. search needs)
+    (λ c κs. tt)
+    (λ c κs. tt)
     (λ c. simp (c .before .before .if4 .taken, c .before .before .before .before .if3 .left, c .before .before .before .before .before .before .if2 .left, le-ltb _ _ (c .before .before .before .before .before .before .before .before .if1 .left), ← (c .written .ensures), ← (c .before .before .before .fixed-bits .ensures), ← (c .before .before .before .before .before .reserved .ensures), ← (c .before .before .before .before .before .before .before .read-only .ensures)))
     (λ c. simp (c .if4 .left, c .before .before .if3 .left, c .before .before .before .before .if2 .left, le-ltb _ _ (c .before .before .before .before .before .before .if1 .left), ← (c .before .fixed-bits .ensures), ← (c .before .before .before .reserved .ensures), ← (c .before .before .before .before .before .read-only .ensures))))

@@ -1,4 +1,3 @@
-use borrow.Author.Needs.{needs}
 use mathlib.Core.Path.{refl}
 use borrow.Author.Tests.{lt-ltb, le-ltb, le-leb, lt-leb, eq-eqb, ne-eqb}
 use Rattle.rules.specs.Host.{written, resetAll}
@@ -9,11 +8,11 @@ pub written-spec : {M : Type 1} → statement M
 unfolding written resetAll
 written-spec =
     tie.close (tie.spec
-    (λ c κs. search needs)
-    (λ c κs. search needs)
+    (λ c κs. tt)
+    (λ c κs. tt)
     (λ c. simp (c .before .before .if1 .taken, ← (c .reset .ensures .0), ← (c .reset .ensures .1), ← (c .before .before .before .resets .ensures)))
-    (λ c κs. search needs)
-    (λ c κs. search needs)
+    (λ c κs. tt)
+    (λ c κs. tt)
     (λ c. simp (c .before .if2 .taken, c .before .before .before .if1 .left, ← (c .slept .ensures), ← (c .before .before .sleeps .ensures), ← (c .before .before .before .before .resets .ensures)))
-    (λ c κs. search needs)
+    (λ c κs. tt)
     (λ c. simp (c .before .before .if2 .left, c .before .before .before .before .if1 .left, ← (c .byte-written .ensures), ← (c .before .before .before .sleeps .ensures), ← (c .before .before .before .before .before .resets .ensures))))

@@ -1,4 +1,3 @@
-use borrow.Author.Needs.{needs}
 use mathlib.Core.Path.{refl}
 use native.Mathlib.Nat.{div-one}
 use Rattle.line.specs.Bits.{bits}
@@ -10,8 +9,8 @@ pub check-nibble-spec : {M : Type 1} → statement M
 unfolding bits remainder
 check-nibble-spec =
     tie.close (tie.spec
-    (λ c κs. search needs)
-    (λ c κs. search needs)
-    (λ c κs. search needs)
-    (λ c κs. search needs)
+    (λ c κs. tt)
+    (λ c κs. tt)
+    (λ c κs. tt)
+    (λ c κs. tt)
     (λ c. simp (div-one, ← (c .check-bit4 .ensures), ← (c .before .check-bit3 .ensures), ← (c .before .before .check-bit2 .ensures), ← (c .before .before .before .check-bit .ensures))))

@@ -9,9 +9,9 @@ pub mark-chtx-spec : {M : Type 1} → statement M
 unfolding markedChtx
 mark-chtx-spec =
     tie.close (tie.spec
-    (λ c κs. search needs)
+    (λ c κs. tt)
     (λ c. search needs)
     (λ c. search needs)
-    (λ c κs. search needs)
+    (λ c κs. tt)
     (λ c. search needs)
     (λ c. simp (← (c .with-chtx .ensures), ← (c .before .before .base .ensures .0))))

@@ -9,7 +9,7 @@ pub retag-spec : {M : Type 1} → statement M
 unfolding retagged
 retag-spec =
     tie.close (tie.spec
-    (λ c κs. search needs)
+    (λ c κs. tt)
     (λ c. search needs)
     (λ c. search needs)
     (λ c. search needs)

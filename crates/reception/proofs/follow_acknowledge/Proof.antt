@@ -10,5 +10,5 @@ follow-acknowledge-spec =
     tie.close (tie.spec
     (λ c κs. search needs)
     (λ c. simp (eq-eqb _ _ (c .before .if1 .taken), ← (c .bit-taken .ensures)))
-    (λ c κs. search needs)
+    (λ c κs. tt)
     (λ c. simp (ne-eqb _ _ (c .before .if1 .left), ← (c .entered .ensures))))

@@ -10,5 +10,5 @@ follow-start-spec =
     tie.close (tie.spec
     (λ c κs. search needs)
     (λ c. simp (lt-ltb _ _ (c .before .if1 .taken), ← (c .moved .ensures)))
-    (λ c κs. search needs)
+    (λ c κs. tt)
     (λ c. simp (le-ltb _ _ (c .before .if1 .left), ← (c .entered .ensures))))

@@ -1,6 +1,4 @@
 use borrow.Author.Needs.{needs}
-use mathlib.Core.Path.{refl}
-use borrow.Author.Tests.{lt-ltb, le-ltb, le-leb, lt-leb, eq-eqb, ne-eqb}
 use Rattle.rules.specs.Service.{chosen}
 use Rattle.service.proofs.chosen.Statement.{statement}
 use Rattle.service.proofs.chosen.Tie as tie

@@ -1,6 +1,3 @@
-use borrow.Author.Needs.{needs}
-use mathlib.Core.Path.{refl}
-use borrow.Author.Tests.{lt-ltb, le-ltb, le-leb, lt-leb, eq-eqb, ne-eqb}
 use Rattle.rules.specs.Service.{opened, withEffort}
 use Rattle.rules.specs.Attempt.{withProgress}
 use Rattle.service.proofs.opened.Statement.{statement}

@@ -1,6 +1,3 @@
-use borrow.Author.Needs.{needs}
-use mathlib.Core.Path.{refl}
-use borrow.Author.Tests.{lt-ltb, le-ltb, le-leb, lt-leb, eq-eqb, ne-eqb}
 use Rattle.rules.specs.Service.{started}
 use Rattle.service.proofs.started.Statement.{statement}
 use Rattle.service.proofs.started.Tie as tie

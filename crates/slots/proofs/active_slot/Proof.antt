@@ -11,6 +11,6 @@ active-slot-spec =
     tie.close (tie.spec
     (λ c. search needs)
     (λ c. search needs)
-    (λ c κs. search needs)
-    (λ c κs. search needs)
+    (λ c κs. tt)
+    (λ c κs. tt)
     (λ c. simp (← (c .sampled-slot .ensures), ← (c .before .before .sampled .ensures))))

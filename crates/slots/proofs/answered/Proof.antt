@@ -10,7 +10,7 @@ pub answered-spec : {M : Type 1} → statement M
 unfolding answerLent refusedBy valueOf number answered accept
 answered-spec =
     tie.close (tie.spec
-    (λ c κs. search needs)
+    (λ c κs. tt)
     (λ c. search needs)
-    (λ c κs. search needs)
+    (λ c κs. tt)
     (λ c. simp (← (c .transmitted .ensures), ← (c .before .before .drives .ensures))))

@@ -1,4 +1,3 @@
-use borrow.Author.Needs.{needs}
 use mathlib.Core.Path.{refl}
 use borrow.Author.Tests.{lt-ltb, le-ltb, le-leb, lt-leb, eq-eqb, ne-eqb}
 use Rattle.rules.specs.Slots.{choiceMade}
@@ -10,10 +9,10 @@ pub choice-made-spec : {M : Type 1} → statement M
 unfolding choiceMade withService withReport
 choice-made-spec =
     tie.close (tie.spec
-    (λ c κs. search needs)
-    (λ c κs. search needs)
-    (λ c κs. search needs)
-    (λ c κs. search needs)
+    (λ c κs. tt)
+    (λ c κs. tt)
+    (λ c κs. tt)
+    (λ c κs. tt)
     (λ c. simp (c .before .if2 .taken, c .before .before .before .before .if1 .taken, ← (c .report-sending .ensures), ← (c .before .before .serving .ensures), ← (c .before .before .before .choose .ensures), ← (c .before .before .before .before .before .chooses .ensures)))
     (λ c. simp (c .if2 .left, c .before .before .before .if1 .taken, ← (c .before .serving .ensures), ← (c .before .before .choose .ensures), ← (c .before .before .before .before .chooses .ensures)))
     (λ c. simp (c .if1 .left, ← (c .before .chooses .ensures))))

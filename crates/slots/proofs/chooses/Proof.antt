@@ -1,4 +1,3 @@
-use borrow.Author.Needs.{needs}
 use mathlib.Core.Path.{refl}
 use borrow.Author.Tests.{lt-ltb, le-ltb, le-leb, lt-leb, eq-eqb, ne-eqb}
 use Rattle.rules.specs.Slots.{chooses}
@@ -9,10 +8,10 @@ pub chooses-spec : {M : Type 1} → statement M
 unfolding chooses
 chooses-spec =
     tie.close (tie.spec
-    (λ c κs. search needs)
-    (λ c κs. search needs)
+    (λ c κs. tt)
+    (λ c κs. tt)
     (λ c. simp (c .if2 .taken, c .before .before .if1 .taken, ← (c .before .serving .ensures), ← (c .before .before .before .is-active .ensures)))
-    (λ c κs. search needs)
+    (λ c κs. tt)
     (λ c. simp (c .if3 .taken, c .before .before .if2 .left, c .before .before .before .before .if1 .taken, ← (c .before .under-way .ensures), ← (c .before .before .before .serving .ensures), ← (c .before .before .before .before .before .is-active .ensures)))
     (λ c. simp (c .if3 .left, c .before .before .if2 .left, c .before .before .before .before .if1 .taken, ← (c .before .under-way .ensures), ← (c .before .before .before .serving .ensures), ← (c .before .before .before .before .before .is-active .ensures)))
     (λ c. simp (c .if1 .left, ← (c .before .is-active .ensures))))

@@ -9,12 +9,12 @@ pub drives-spec : {M : Type 1} → statement M
 unfolding drives drivesAs
 drives-spec =
     tie.close (tie.spec
-    (λ c κs. search needs)
+    (λ c κs. tt)
     (λ c. search needs)
     (λ c. search needs)
-    (λ c κs. search needs)
+    (λ c κs. tt)
     (λ c. search needs)
-    (λ c κs. search needs)
-    (λ c. simp (c .before .match .keys1, c .enum-told .given .1, ← (c .before .before .role-of .ensures)))
-    (λ c. simp (c .before .before .match .keys2, ← (c .receiver-level .ensures), c .before .enum-told2 .given .1, ← (c .before .before .before .role-of .ensures)))
-    (λ c. simp (c .before .before .match .keys3, ← (c .sender-level .ensures), c .before .enum-told3 .given .1, ← (c .before .before .before .role-of .ensures))))
+    (λ c κs. tt)
+    (λ c. simp (c .enum-told .given .1, ← (c .before .before .role-of .ensures)))
+    (λ c. simp (← (c .receiver-level .ensures), c .before .enum-told2 .given .1, ← (c .before .before .before .role-of .ensures)))
+    (λ c. simp (← (c .level-at .ensures), c .before .enum-told3 .given .1, ← (c .before .before .before .role-of .ensures))))

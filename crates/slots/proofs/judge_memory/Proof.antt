@@ -1,4 +1,3 @@
-use borrow.Author.Needs.{needs}
 use mathlib.Core.Path.{refl}
 use borrow.Author.Tests.{lt-ltb, le-ltb, le-leb, lt-leb, eq-eqb, ne-eqb}
 use Rattle.rules.specs.Service.{memoryEnded}
@@ -12,7 +11,7 @@ pub judge-memory-spec : {M : Type 1} → statement M
 unfolding memoryEnded memoryDelivered memoryStored delivers markedCher markedChrx retagged stored laidFrom markedChtx
 judge-memory-spec =
     tie.close (tie.spec
-    (λ c κs. search needs)
-    (λ c κs. search needs)
-    (λ c κs. search needs)
+    (λ c κs. tt)
+    (λ c κs. tt)
+    (λ c κs. tt)
     (λ c. simp (← (c .end-memory .ensures), ← (c .before .before .deliver .ensures), ← (c .before .before .before .before .delivers .ensures))))

@@ -1,4 +1,3 @@
-use borrow.Author.Needs.{needs}
 use mathlib.Core.Path.{refl}
 use borrow.Author.Tests.{lt-ltb, le-ltb, le-leb, lt-leb, eq-eqb, ne-eqb}
 use Rattle.slots.specs.Ordinary.{ordinary}
@@ -9,7 +8,7 @@ pub ordinary-spec : {M : Type 1} → statement M
 unfolding ordinary
 ordinary-spec =
     tie.close (tie.spec
-    (λ c κs. search needs)
-    (λ c κs. search needs)
+    (λ c κs. tt)
+    (λ c κs. tt)
     (λ c. simp (c .before .if1 .taken, ← (c .goes .ensures), ← (c .before .before .passes .ensures)))
     (λ c. simp (c .if1 .left, ← (c .before .passes .ensures))))

@@ -1,4 +1,3 @@
-use borrow.Author.Needs.{needs}
 use mathlib.Core.Path.{refl}
 use borrow.Author.Tests.{lt-ltb, le-ltb, le-leb, lt-leb, eq-eqb, ne-eqb}
 use Rattle.rules.specs.Slots.{receptionJudged}
@@ -9,8 +8,8 @@ pub reception-judged-spec : {M : Type 1} → statement M
 unfolding receptionJudged
 reception-judged-spec =
     tie.close (tie.spec
-    (λ c κs. search needs)
-    (λ c κs. search needs)
-    (λ c κs. search needs)
+    (λ c κs. tt)
+    (λ c κs. tt)
+    (λ c κs. tt)
     (λ c. simp (c .before .if1 .taken, ← (c .named .ensures), ← (c .before .before .command-ended .ensures), ← (c .before .before .before .reception-after .ensures)))
     (λ c. simp (c .if1 .left, ← (c .before .command-ended .ensures), ← (c .before .before .reception-after .ensures))))

@@ -11,5 +11,5 @@ unfolding answerLent refusedBy valueOf number restedSlot accept
 rested-spec =
     tie.close (tie.spec
     (λ c. search needs)
-    (λ c κs. search needs)
+    (λ c κs. tt)
     (λ c. simp (← (c .transmitted .ensures))))

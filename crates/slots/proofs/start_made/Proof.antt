@@ -11,6 +11,6 @@ unfolding startMade withService
 start-made-spec =
     tie.close (tie.spec
     (λ c. search needs)
-    (λ c κs. search needs)
-    (λ c κs. search needs)
+    (λ c κs. tt)
+    (λ c κs. tt)
     (λ c. simp (← (c .started .ensures), ← (c .before .autonomous .ensures))))

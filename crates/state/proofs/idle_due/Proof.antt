@@ -1,4 +1,3 @@
-use borrow.Author.Needs.{needs}
 use mathlib.Core.Path.{refl}
 use borrow.Author.Tests.{lt-ltb, le-ltb, le-leb, lt-leb, eq-eqb, ne-eqb}
 use Rattle.rules.specs.State.{idleDue}
@@ -9,8 +8,8 @@ pub idle-due-spec : {M : Type 1} → statement M
 unfolding idleDue
 idle-due-spec =
     tie.close (tie.spec
-    (λ c κs. search needs)
+    (λ c κs. tt)
     (λ c. simp (c .if2 .taken, c .before .before .if1 .taken, ← (c .before .serving .ensures)))
-    (λ c κs. search needs)
+    (λ c κs. tt)
     (λ c. simp (c .before .if2 .left, c .before .before .before .if1 .taken, ← (c .idled .ensures), ← (c .before .before .serving .ensures)))
     (λ c. simp (c .if1 .left)))

@@ -1,4 +1,3 @@
-use borrow.Author.Needs.{needs}
 use mathlib.Core.Path.{refl}
 use borrow.Author.Tests.{lt-ltb, le-ltb, le-leb, lt-leb, eq-eqb, ne-eqb}
 use Rattle.rules.specs.State.{receptionInRange}
@@ -12,5 +11,5 @@ reception-in-range-spec =
     (λ c. simp (lt-leb _ _ (c .if1 .taken)))
     (λ c. simp (lt-leb _ _ (c .if2 .taken), le-leb _ _ (c .before .before .if1 .left)))
     (λ c. simp (lt-leb _ _ (c .if3 .taken), le-leb _ _ (c .before .before .if2 .left), le-leb _ _ (c .before .before .before .before .if1 .left)))
-    (λ c κs. search needs)
+    (λ c κs. tt)
     (λ c. simp (le-leb _ _ (c .before .if3 .left), le-leb _ _ (c .before .before .before .if2 .left), le-leb _ _ (c .before .before .before .before .before .if1 .left), ← (c .winner-in-range .ensures))))

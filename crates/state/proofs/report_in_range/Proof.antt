@@ -1,4 +1,3 @@
-use borrow.Author.Needs.{needs}
 use mathlib.Core.Path.{refl}
 use borrow.Author.Tests.{lt-ltb, le-ltb, le-leb, lt-leb, eq-eqb, ne-eqb}
 use Rattle.rules.specs.State.{reportInRange}
@@ -9,8 +8,8 @@ pub report-in-range-spec : {M : Type 1} → statement M
 unfolding reportInRange
 report-in-range-spec =
     tie.close (tie.spec
-    (λ c κs. search needs)
-    (λ c κs. search needs)
+    (λ c κs. tt)
+    (λ c κs. tt)
     (λ c. simp (c .before .if2 .taken, c .before .before .before .if1 .taken, ← (c .before .before .retries-in-range2 .ensures), ← (c .before .before .before .before .retries-in-range .ensures)))
     (λ c. simp (c .if2 .left, c .before .before .if1 .taken, ← (c .before .retries-in-range2 .ensures), ← (c .before .before .before .retries-in-range .ensures)))
     (λ c. simp (c .if1 .left, ← (c .before .retries-in-range .ensures))))

@@ -1,4 +1,3 @@
-use borrow.Author.Needs.{needs}
 use mathlib.Core.Path.{refl}
 use borrow.Author.Tests.{lt-ltb, le-ltb, le-leb, lt-leb, eq-eqb, ne-eqb}
 use Rattle.rules.specs.State.{resetCore}
@@ -9,9 +8,9 @@ pub reset-core-spec : {M : Type 1} → statement M
 unfolding resetCore
 reset-core-spec =
     tie.close (tie.spec
-    (λ c κs. search needs)
-    (λ c κs. search needs)
-    (λ c κs. search needs)
-    (λ c κs. search needs)
-    (λ c κs. search needs)
+    (λ c κs. tt)
+    (λ c κs. tt)
+    (λ c κs. tt)
+    (λ c κs. tt)
+    (λ c κs. tt)
     (λ c. simp (← (c .resting .ensures), ← (c .before .quiet .ensures), ← (c .before .before .unsettled .ensures), ← (c .before .before .before .reset-report .ensures), ← (c .before .before .before .before .in-mode .ensures))))

@@ -1,4 +1,3 @@
-use borrow.Author.Needs.{needs}
 use mathlib.Core.Path.{refl}
 use borrow.Author.Tests.{lt-ltb, le-ltb, le-leb, lt-leb, eq-eqb, ne-eqb}
 use Rattle.rules.specs.State.{serviceInRange}
@@ -10,5 +9,5 @@ unfolding serviceInRange
 service-in-range-spec =
     tie.close (tie.spec
     (λ c. simp (lt-leb _ _ (c .if1 .taken)))
-    (λ c κs. search needs)
+    (λ c κs. tt)
     (λ c. simp (le-leb _ _ (c .before .if1 .left), ← (c .effort-in-range .ensures))))

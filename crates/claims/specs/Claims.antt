@@ -1,0 +1,286 @@
+-- Every promise, on one page: first in words (quoted from the demands or from 01), then exactly. The proofs are below and cite the work elsewhere.
+-- What the calls do is said in their own contracts, by the definitions that are used here:
+--   controller: each call's answer is `step` of its event, for every controller, in range or not (crates/controller/src/lib.rt); the same over a lent map (crates/host, crates/slots)
+--   codec: `encoded`, `encodedRoom` (crates/encoder/src/lib.rt); `decoded`, `decodedRoom` of `reading` (crates/decoder/src/lib.rt)
+--   session: `session`, `eventAt` (crates/session/src/lib.rt); numbers: `number` (crates/number/src/lib.rt)
+use Prim.Native.Nat.{ℕ, _+_, _*_, _%_, _≤_, _<_}
+use mathlib.Core.Bool.{Bool, true, false}
+use mathlib.Core.List.{List, [], _∷_, _++_}
+use mathlib.Core.Logic.{_↔_}
+use mathlib.Core.Path.{_≡_, refl, ap, _∙_, subst}
+use native.Mathlib.Omega.{arith}
+use lib.Bits.{and-zero-r}
+use lib.Dec.{ltb}
+use lib.ListN.{length, getD, take}
+use Rattle.line.specs.Bits.{pick, bits, Below}
+use Rattle.line.specs.LineCode.{lineCode, pattern}
+use Rattle.line.specs.Frame.{Frame, Fits, slots, size}
+use Rattle.line.specs.Layout.{levelOf}
+use Rattle.line.specs.Laws.{slots-length}
+use Rattle.line.specs.Claims as line
+use Rattle.codec.specs.Encode.{encodedRoom}
+use Rattle.codec.specs.Answer.{laid}
+use Rattle.codec.specs.Decode.{Reading, frame, refused, reading, headOf, decoded, decodedRoom}
+use Rattle.codec.specs.Claims as codec
+use Rattle.codec.specs.declared.Refusal as codec-refusal
+use Rattle.codec.specs.declared.Refusal.the-variants.{Room}
+use Rattle.codec.specs.declared.Encoded.the-variants as encoding
+use Rattle.codec.specs.declared.Decoded.the-variants as decoding
+use Rattle.rules.specs.Registers.{readOnly, writeOnly, reserved, fixedBits}
+use Rattle.rules.specs.Channels.{base, matches, takes, winnerFor}
+use Rattle.rules.specs.Masks.{bitAt}
+use Rattle.rules.specs.Mailbox.{mailboxAt, statusByte, markedCher}
+use Rattle.rules.specs.Reception.{begun}
+use Rattle.rules.specs.Valid.{low}
+use Rattle.rules.specs.State.{inRange, isAsleep}
+use Rattle.rules.specs.Run.{fresh, step, next, after}
+use Rattle.rules.specs.Tally.{none}
+use Rattle.rules.specs.Promise.{Kept}
+use Rattle.rules.specs.Delivered.{noLog, received, Delivered}
+use Rattle.rules.specs.Deliver.{delivery}
+use Rattle.rules.specs.Own.{OwnFrames}
+use Rattle.rules.specs.OwnProof.{own-frames}
+use Rattle.rules.specs.Interrupts as interrupt
+use Rattle.rules.specs.InterruptsRaised.{interrupts as raised}
+use Rattle.rules.specs.Claims as rules
+use Rattle.rules.specs.declared.Winner.{Winner}
+use Rattle.rules.specs.declared.Controller.{Controller}
+use Rattle.rules.specs.declared.Event.{Event}
+use Rattle.rules.specs.declared.Event.the-variants.{Reset, Write, Read, Slot}
+use Rattle.number.specs.Number.{Bytes, number, written, groups, groupsOf, before, faultOf, refusalNumber, Number}
+use Rattle.number.specs.Format as numbers
+use Rattle.session.specs.Reading.{longest, Events, Counted, session}
+use Rattle.session.specs.Writing.{sessionBytes, AllFit}
+use Rattle.session.specs.Stands.{Settled}
+use Rattle.session.specs.Claims as sessions
+use Rattle.session.specs.declared.Fault.{Fault}
+use Rattle.session.specs.declared.End.the-variants.{Bad}
+use Rattle.session.specs.declared.Event as session-event
+use Rattle.claims.specs.Numbers as refusal
+use Rattle.claims.specs.Places as places
+use Rattle.claims.specs.Agree as agree
+use Rattle.claims.specs.Decoded.{Decoded, every-run}
+
+-- ---- demand 1
+
+pub record Refusals : Type 0 where
+  -- "a refused call leaves the controller .. as [it] stood before it"
+  pub same : (c : Controller) (e : Event) → (step c e .refused ≡ 0 → ⊥) → step c e .next ≡ c
+  -- "Each returns its number and zero elsewhere"
+  pub zero-elsewhere : (c : Controller) (e : Event) → (step c e .refused ≡ 0 → ⊥) → step c e .value ≡ 0
+  -- "no state reached from a fresh one is refused" with 6
+  pub in-range : (es : List Event) → inRange (after fresh es .core) ≡ true
+  pub never-six : (es : List Event) (e : Event) → step (after fresh es) e .refused ≡ 6 → ⊥
+  -- "Pin reset: 6."
+  pub of-reset : (c : Controller) → step c Reset .refused ≡ pick (inRange (c .core)) 0 6
+  -- "Order, host access: 6, 7, 1, 2, 3 or 4, 8."
+  pub of-write : (c : Controller) (a v : ℕ) → step c (Write a v) .refused
+      ≡ pick (inRange (c .core)) (pick (isAsleep (c .core .activity .mode)) 7 (pick (ltb 255 a) 1
+      (pick (ltb 255 v) 2 (pick (readOnly a) 3 (pick (reserved a) 3 (pick (fixedBits a (v % 256)) 0 8)))))) 6
+  pub of-read : (c : Controller) (a : ℕ) → step c (Read a) .refused
+      ≡ pick (inRange (c .core)) (pick (isAsleep (c .core .activity .mode)) 7 (pick (ltb 255 a) 1 (pick (writeOnly a) 4 (pick (reserved a) 4 0)))) 6
+  -- "Slots: 6, 5"
+  pub of-slot : (c : Controller) (levels : ℕ) → step c (Slot levels) .refused ≡ pick (inRange (c .core)) (pick (ltb 7 levels) 5 0) 6
+  -- "and every buffer we lent as [it] stood before it": the codec's room
+  pub encode-room : (room : List ℕ) (f : Frame) (r : codec-refusal.Refusal) → encodedRoom room f (encoding.Refused r) ≡ room
+  pub decode-room : (room : List ℕ) (x : Reading) (r : codec-refusal.Refusal) → decoded (length room) x ≡ decoding.Refused r → decodedRoom room x ≡ room
+
+pub record Sessions : Type 0 where
+  -- "Any .. session file, however broken, gets an answer": a fault's place lies in the input or at its end, and no more events are read than are due
+  pub answered : (most : ℕ) (s : List ℕ) → Bytes s → sessions.Answered most s (session most s)
+  -- "session events before a bad one stand": they are the same whatever stands from the fault's place on
+  pub stand : (most : ℕ) (s : List ℕ) → Bytes s → (c : ℕ) (r : Events) → session most s ≡ Counted c r → (f : Fault) (p : ℕ) → r .end ≡ Bad f p
+      → (t : List ℕ) → sessions.Begins c (r .events) (session most (take p s ++ t))
+  -- and the fault, unless the input is cut there, whatever follows the input
+  pub settled : (most : ℕ) (s t : List ℕ) → Bytes s → Settled (session most s) → session most (s ++ t) ≡ session most s
+  -- a good session is the written form of its events, and every such form is a good session
+  pub told : (most : ℕ) (s : List ℕ) → Bytes s → (es : List session-event.Event) → sessions.Good most s es → (length es ≤ most) × AllFit es × (s ≡ sessionBytes es)
+  pub enough : (most : ℕ) (es : List session-event.Event) → length es ≤ most → length es ≤ 65535 → AllFit es → sessions.Good most (sessionBytes es) es
+  -- "a good session has at most 28,675" bytes
+  pub short : (s : List ℕ) → Bytes s → (es : List session-event.Event) → sessions.Good longest s es → length s ≤ 28675
+  -- a number's "shortest form only", and "the rest of the caller's bytes is handed back"
+  pub number-told : (s : List ℕ) → Bytes s → (n : ℕ) (t : List ℕ) → number s ≡ Number n t → (n ≤ 65535) × (s ≡ written n ++ t)
+  pub number-enough : (n : ℕ) (t : List ℕ) → n ≤ 65535 → number (written n ++ t) ≡ Number n t
+
+-- ---- demand 2
+
+pub record Frames : Type 0 where
+  -- "Frame to timeslots and timeslots to frame, each undoes the other": a slot list reads as a frame exactly when it is that frame's, for every longest length
+  pub exact : (longest : ℕ) (s : List ℕ) (f : Frame) → (reading longest s ≡ frame f) ↔ (Fits longest f × (s ≡ slots f))
+  pub decoded : (longest : ℕ) (f : Frame) → Fits longest f → reading longest (slots f) ≡ frame f
+  pub encoded : (longest : ℕ) (s : List ℕ) (f : Frame) → reading longest s ≡ frame f → slots f ≡ s
+  pub one : (longest : ℕ) (f g : Frame) → Fits longest f → Fits longest g → slots f ≡ slots g → f ≡ g
+  -- "Whole frame: 60 + 10n slots"; the level of each by its part and place; the table of the 16 nibbles
+  pub long : (f : Frame) → length (slots f) ≡ 60 + 10 * length (f .bytes)
+  pub level : (f : Frame) (k : ℕ) → levelOf f k ≡ getD (slots f) k 1
+  pub table : (n : ℕ) → bits 5 (pattern n) ≡ lineCode (bits 4 n)
+
+pub record Matching : Type 0 where
+  -- "A frame matches when every tag bit under a mask one equals the identifier's": then, and only then
+  pub told : (tag mask identifier : ℕ) → matches tag mask identifier ≡ true → (k : ℕ) → bitAt mask k ≡ 1 → bitAt tag k ≡ bitAt identifier k
+  pub enough : (tag mask identifier : ℕ) → ((k : ℕ) → bitAt mask k ≡ 1 → bitAt tag k ≡ bitAt identifier k) → matches tag mask identifier ≡ true
+  -- "the lowest-numbered listening channel whose masked identifier matches": who takes a frame takes it, and no lower channel does
+  pub lowest : (m : List ℕ) (high low : ℕ) → winnerFor m high low .matched ≡ true
+      → (takes m (winnerFor m high low .channel) high low ≡ true) × ((k : ℕ) → k < winnerFor m high low .channel → takes m k high low ≡ false)
+  pub nobody : (m : List ℕ) (high low : ℕ) → winnerFor m high low .matched ≡ false → (k : ℕ) → k < 14 → takes m k high low ≡ false
+
+-- `received m w f` is what frame f does to the memory map m where w takes it
+pub record Storing : Type 0 where
+  -- "goes whole": "the status byte .. at 0x80 + pointer and the n data bytes after it"
+  pub whole : (m : List ℕ) (w : Winner) (f : Frame) → length m ≡ 256 → Fits 30 f → w .matched ≡ true → length (f .bytes) + 1 ≤ w .length
+      → (k : ℕ) → k ≤ length (f .bytes) → getD (received m w f) (mailboxAt (w .pointer) k) 0 ≡ getD (statusByte (low f) (length (f .bytes)) ∷ f .bytes) k 0
+  -- "and nowhere else": beside them only tag and status of the channel that takes it change
+  pub nowhere-else : (m : List ℕ) (w : Winner) (f : Frame) → w .matched ≡ true → length (f .bytes) + 1 ≤ w .length
+      → (a : ℕ) → ((k : ℕ) → k ≤ length (f .bytes) → a ≡ mailboxAt (w .pointer) k → ⊥)
+      → (a ≡ base (w .channel) → ⊥) → (a ≡ base (w .channel) + 1 → ⊥) → (a ≡ base (w .channel) + 3 → ⊥) → getD (received m w f) a 0 ≡ getD m a 0
+  -- "If it .. doesn't fit: no mailbox byte": CHER alone
+  pub too-long : (m : List ℕ) (w : Winner) (f : Frame) → w .matched ≡ true → w .length ≤ length (f .bytes) → received m w f ≡ markedCher m (w .channel)
+  pub unmatched : (m : List ℕ) (w : Winner) (f : Frame) → w .matched ≡ false → received m w f ≡ m
+  -- the memory map keeps its 256 bytes
+  pub map-long : (es : List Event) → length (after fresh es .memory) ≡ 256
+
+pub record Receiving : Type 0 where
+  -- "a valid frame that an active controller takes from another module": in each of its slots what the samples decode to is delivered, and nothing else is;
+  -- a fault is heard only where they can decode to no valid frame (specs/Decoded.antt)
+  pub delivered : (es : List Event) → Decoded fresh noLog es
+  -- the receiver begun by a dominant slot takes a slot list exactly if it decodes to a valid frame (specs/Agree.antt)
+  pub told : (m s : List ℕ) → Below 2 s → agree.receives m begun s ≡ true → agree.Accepted m (0 ∷ s)
+  pub enough : (m s : List ℕ) → Below 2 s → agree.Accepted m (0 ∷ s) → agree.receives m begun s ≡ true
+  -- "Matched and fitting, RAK 1, DRAK 0, check right: the model drives the acknowledge", and no other dominant level where it isn't the sender
+  -- (Acknowledges in crates/rules/specs/Delivered.antt); and a closed run in which it is driven and the frame stored
+  pub acknowledged : (es : List Event) → Delivered fresh noLog es
+  pub closed : rules.Receiving
+  -- "The model's own frame .. is not stored, touches no receiving channel and is never acknowledged by the model" (crates/rules/specs/Own.antt)
+  pub own : OwnFrames
+  -- "The interrupt line is asserted when status and enable share a one"; what raises each of the six bits, and nothing else does (crates/rules/specs/Interrupts.antt)
+  pub interrupts : interrupt.Interrupts
+
+-- ---- demand 3
+
+pub record Sending : Type 0 where
+  -- "each event gets the controller that the last one left"
+  pub chained : (c : Controller) (es : List Event) (e : Event) → after c (es ++ (e ∷ [])) ≡ step (after c es) e .next
+  -- for every list of events: one fixed frame of which each attempt drives an opening part, at most R + 1 errors, TE exactly at R + 1, at most
+  -- (C + R + 1) × (60 + 10n) slots, by the tally's own count (Kept and Claim in crates/rules/specs/Promise.antt, the tally in Tally.antt)
+  pub kept : (es : List Event) → Kept fresh none es
+  -- closed runs with their figures for C, errors and slots: sent, exhausted, lost twice, joined, aborted
+  pub runs : rules.Runs
+
+-- ---- the marked cases (01, Marked cases), one table
+
+pub record Marked : Type 0 where
+  -- "P1 nibble 0: 00001. P2 15: 11110. P3 8: 10001."
+  pub p1 : lineCode (bits 4 0) ≡ 0 ∷ 0 ∷ 0 ∷ 0 ∷ 1 ∷ []
+  pub p2 : lineCode (bits 4 15) ≡ 1 ∷ 1 ∷ 1 ∷ 1 ∷ 0 ∷ []
+  pub p3 : lineCode (bits 4 8) ≡ 1 ∷ 0 ∷ 0 ∷ 0 ∷ 1 ∷ []
+  -- "P4 n 0: 60 slots. P5 n 30: 360."
+  pub p4 : (f : Frame) → length (f .bytes) ≡ 0 → length (slots f) ≡ 60
+  pub p5 : (f : Frame) → length (f .bytes) ≡ 30 → length (slots f) ≡ 360
+  -- "P6 channel 13: 0x78."
+  pub p6 : base 13 ≡ 0x78
+  -- "P7 tag and mask 0xFF8: 0xFFF matches, 0xFF7 doesn't. P8 mask 0 matches all."
+  pub p7 : (matches 0xFF8 0xFF8 0xFFF ≡ true) × (matches 0xFF8 0xFF8 0xFF7 ≡ false)
+  pub p8 : (tag identifier : ℕ) → matches tag 0 identifier ≡ true
+  -- "P9 pointer 0x7F, two bytes: 0xFF, 0x80, 0x81."
+  pub p9 : (mailboxAt 0x7F 0 ≡ 0xFF) × (mailboxAt 0x7F 1 ≡ 0x80) × (mailboxAt 0x7F 2 ≡ 0x81)
+  -- "P10 300: AC 02. P11 83 00: 31."
+  pub p10 : (written 300 ≡ 0xAC ∷ 0x02 ∷ []) × (number (0xAC ∷ 0x02 ∷ []) ≡ Number 300 [])
+  pub p11 : faultOf (number (0x83 ∷ 0x00 ∷ [])) ≡ 31
+  -- "P12 RAK 1, R/W 0, RTR 0, three bytes: 0x83."
+  pub p12 : (low : ℕ) → low % 8 ≡ 0b100 → statusByte low 3 ≡ 0x83
+
+-- ---- the proofs
+
+refused-room : (room : List ℕ) (x : Reading) (r : codec-refusal.Refusal) → decoded (length room) x ≡ decoding.Refused r → decodedRoom room x ≡ room
+unfolding decoded decodedRoom
+refused-room room (frame f) r e = go (ltb (length room) (length (f .bytes))) e
+  where
+    go : (b : Bool) → pick b (decoding.Refused Room) (decoding.Accepted (headOf f)) ≡ decoding.Refused r → pick b room (laid (f .bytes) room) ≡ room
+    go true d = refl
+    go false d = absurd (let z : _≡_ {A = ℕ} 0 1 = cc in omega arith)
+refused-room room (refused x) r e = refl
+
+chain : (c : Controller) (es : List Event) (e : Event) → after c (es ++ (e ∷ [])) ≡ step (after c es) e .next
+unfolding after next
+chain c [] e = refl
+chain c (x ∷ es) e = chain (next c x) es e
+
+pub refusals : Refusals
+refusals =
+    record {
+      same = rules.refusals .same;
+      zero-elsewhere = rules.refusals .zero-elsewhere;
+      in-range = rules.refusals .in-range;
+      never-six = rules.refusals .never-six;
+      of-reset = refusal.reset-number;
+      of-write = refusal.write-number;
+      of-read = refusal.read-number;
+      of-slot = refusal.slot-number;
+      encode-room = λ room f r. unfold encodedRoom in refl;
+      decode-room = refused-room;
+    }
+
+pub session-claims : Sessions
+session-claims =
+    record {
+      answered = sessions.total;
+      stand = sessions.prefix;
+      settled = sessions.stands;
+      told = sessions.determined;
+      enough = sessions.complete;
+      short = λ s b es e. subst (λ (n : ℕ). length s ≤ n) sessions.longest-size (sessions.size longest s b es e);
+      number-told = numbers.accepted;
+      number-enough = numbers.reads-back;
+    }
+
+pub frames : Frames
+unfolding size
+frames =
+    record {
+      exact = λ longest. codec.codec longest .exact;
+      decoded = λ longest. codec.codec longest .decoded;
+      encoded = λ longest. codec.codec longest .encoded;
+      one = λ longest. codec.codec longest .one;
+      long = slots-length;
+      level = line.layout .level;
+      table = line.layout .table;
+    }
+
+pub matching : Matching
+matching = record { told = rules.matching .told; enough = rules.matching .enough; lowest = places.winner-lowest; nobody = places.winner-none }
+
+pub storing : Storing
+storing = record { whole = places.laid-at; nowhere-else = places.elsewhere; too-long = places.too-long; unmatched = places.no-winner; map-long = places.map-long }
+
+pub receiving : Receiving
+receiving =
+    record {
+      delivered = every-run;
+      told = agree.agree-told;
+      enough = agree.agree-enough;
+      acknowledged = delivery;
+      closed = rules.receiving;
+      own = own-frames;
+      interrupts = raised;
+    }
+
+pub sending : Sending
+sending = record { chained = chain; kept = rules.sending .kept; runs = rules.runs }
+
+pub marked : Marked
+unfolding lineCode bits size base matches mailboxAt statusByte number written groups groupsOf before faultOf refusalNumber
+marked =
+    record {
+      p1 = refl;
+      p2 = refl;
+      p3 = refl;
+      p4 = λ f e. slots-length f ∙ ap size e;
+      p5 = λ f e. slots-length f ∙ ap size e;
+      p6 = refl;
+      p7 = (refl, refl);
+      p8 = λ tag identifier. simp and-zero-r;
+      p9 = (refl, refl, refl);
+      p10 = (refl, refl);
+      p11 = refl;
+      p12 = λ low e. rw e;
+    }

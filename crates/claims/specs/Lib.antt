@@ -1,0 +1,5 @@
+pub mod Numbers
+pub mod Places
+pub mod Decoded
+pub mod Agree
+pub mod Claims

@@ -1,0 +1,18 @@
+use Rattle.rules.specs.Channels.{takes}
+use Rattle.matching.proofs.takes.Statement.{statement}
+use Rattle.matching.proofs.takes.Tie as tie
+
+pub takes-spec : {M : Type 1} → statement M
+unfolding takes
+takes-spec =
+    tie.close (tie.spec
+    (λ c κs. tt)
+    (λ c κs. tt)
+    (λ c κs. tt)
+    (λ c κs. tt)
+    (λ c κs. tt)
+    (λ c κs. tt)
+    (λ c κs. tt)
+    (λ c. simp (c .before .if2 .taken, c .before .before .before .before .before .before .if1 .taken, ← (c .buffer-of .ensures), ← (c .before .before .matches .ensures), ← (c .before .before .before .twelve3 .ensures), ← (c .before .before .before .before .twelve2 .ensures), ← (c .before .before .before .before .before .twelve .ensures), ← (c .before .before .before .before .before .before .before .listens .ensures), ← (c .before .before .before .before .before .before .before .before .channel-at .ensures)))
+    (λ c. simp (c .if2 .left, c .before .before .before .before .before .if1 .taken, ← (c .before .matches .ensures), ← (c .before .before .twelve3 .ensures), ← (c .before .before .before .twelve2 .ensures), ← (c .before .before .before .before .twelve .ensures), ← (c .before .before .before .before .before .before .listens .ensures), ← (c .before .before .before .before .before .before .before .channel-at .ensures)))
+    (λ c. simp (c .if1 .left, ← (c .before .listens .ensures), ← (c .before .before .channel-at .ensures))))

@@ -1,0 +1,195 @@
+// Matching: who takes a frame, who sends (01, Receiving, Sending; 000, Channel Registers).
+// `low` is byte 1 of a frame or of a channel: identifier or tag bits 3 to 0, EXT, RAK, R/W, RTR.
+ghost use mathlib.Core.Path.{_≡_};
+ghost use Rattle.rules.specs.Channels as rule;
+use rules::Buffer;
+use rules::Channel;
+use rules::Choice;
+use rules::Winner;
+
+// ---- who takes a frame
+
+// Every tag bit under a mask one equals the identifier's.
+fn matches(tag: u16, mask: u16, identifier: u16) -> bool
+    ensures { λ r. ⌜ r ≡ rule.matches tag mask identifier ⌝ }
+{
+    (tag ^ identifier) & mask == 0
+}
+
+// 0,1,-,0 takes data frames.
+fn listens_for_data(x: Channel) -> bool
+    ensures { λ r. ⌜ r ≡ rule.listensForData x ⌝ }
+{
+    if channels::reads(x.low) {
+        return false;
+    }
+    let received = channels::chrx(x.status);
+    if received {
+        return false;
+    }
+    channels::remote(x.low)
+}
+
+// 1,0,1,0 takes reply requests.
+fn listens_for_requests(x: Channel) -> bool
+    ensures { λ r. ⌜ r ≡ rule.listensForRequests x ⌝ }
+{
+    if channels::remote(x.low) {
+        return false;
+    }
+    let requested = channels::chrx(x.status);
+    if requested {
+        return false;
+    }
+    (channels::reads(x.low)) & (channels::chtx(x.status))
+}
+
+// Whether the channel's status takes a frame of this command: a data frame (R/W 0, RTR 0) or a reply request (1, 1), EXT 1.
+fn listens(x: Channel, low: u8) -> bool
+    ensures { λ r. ⌜ r ≡ rule.listens x low ⌝ }
+{
+    if channels::extension(low) {
+        if channels::reads(low) {
+            if channels::remote(low) {
+                return listens_for_requests(x);
+            }
+            return false;
+        }
+        if channels::remote(low) {
+            return false;
+        }
+        return listens_for_data(x);
+    }
+    false
+}
+
+// Whether channel c takes the frame: it listens, its tag matches under its mask, its link is good.
+fn takes(m: &[u8; 256], c: u8, high: u8, low: u8) -> bool
+    ensures { λ r. ⌜ r ≡ rule.takes (now (m .entry)) c high low ⌝ }
+{
+    let x = channels::channel_at(m, c);
+    if listens(x, low) {
+        let tag = channels::twelve(x.high, x.low);
+        let mask = channels::twelve(x.over, x.under);
+        if matches(tag, mask, channels::twelve(high, low)) {
+            let b = channels::buffer_of(m, c);
+            return b.legal;
+        }
+        return false;
+    }
+    false
+}
+
+// No channel takes the frame.
+pub fn nobody() -> Winner
+    ensures { λ r. ⌜ r ≡ rule.nobody ⌝ }
+{
+    Winner {
+        matched: false,
+        channel: 0,
+        silent: false,
+        pointer: 0,
+        length: 0,
+    }
+}
+
+// Channel c takes the frame: its own DRAK, and the pointer and length that it uses.
+fn winner_of(m: &[u8; 256], c: u8) -> Winner
+    ensures { λ r. ⌜ r ≡ rule.winnerOf (now (m .entry)) c ⌝ }
+{
+    let x = channels::channel_at(m, c);
+    let b = channels::buffer_of(m, c);
+    Winner {
+        matched: true,
+        channel: c,
+        silent: channels::drak(x.pointer),
+        pointer: b.pointer,
+        length: b.length,
+    }
+}
+
+// The lowest channel that takes the frame.
+fn lowest_listening(m: &[u8; 256], high: u8, low: u8) -> Choice
+    ensures { λ r. ⌜ r ≡ rule.lowestListening (now (m .entry)) high low ⌝ }
+{
+    let mut c: u8 = 0;
+    while c < channels::CHANNELS {
+        if takes(m, c, high, low) {
+            return Choice::Lowest(c);
+        }
+        c += 1;
+    }
+    Choice::Nothing
+}
+
+// What is held of the channel that takes the frame.
+fn won(m: &[u8; 256], x: Choice) -> Winner
+    ensures { λ r. ⌜ r ≡ rule.won (now (m .entry)) x ⌝ }
+{
+    match x {
+        Choice::Nothing => nobody(),
+        Choice::Lowest(c) => winner_of(m, c),
+    }
+}
+
+// The winner of a frame, by its first two bytes.
+pub fn winner_for(m: &[u8; 256], high: u8, low: u8) -> Winner
+    ensures { λ r. ⌜ r ≡ rule.winnerFor (now (m .entry)) high low ⌝ }
+{
+    won(m, lowest_listening(m, high, low))
+}
+
+// ---- who sends
+
+// The channel's status is 0,0,0,- or 1,0,0,1, and CHER is 0.
+fn asks_to_send(x: Channel) -> bool
+    ensures { λ r. ⌜ r ≡ rule.asksToSend x ⌝ }
+{
+    if channels::cher(x.status) {
+        return false;
+    }
+    if channels::remote(x.low) {
+        return false;
+    }
+    if channels::chtx(x.status) {
+        return false;
+    }
+    if channels::reads(x.low) {
+        return channels::chrx(x.status);
+    }
+    true
+}
+
+// Whether the buffer holds a status byte and at most `longest` data bytes.
+fn sendable(b: Buffer, longest: u8) -> bool
+    ensures { λ r. ⌜ r ≡ rule.sendable b longest ⌝ }
+{
+    if b.legal {
+        return b.length as u16 <= longest as u16 + 1;
+    }
+    false
+}
+
+// Whether channel c is ready to send.
+fn ready(m: &[u8; 256], longest: u8, c: u8) -> bool
+    ensures { λ r. ⌜ r ≡ rule.ready (now (m .entry)) longest c ⌝ }
+{
+    if asks_to_send(channels::channel_at(m, c)) {
+        return sendable(channels::buffer_of(m, c), longest);
+    }
+    false
+}
+
+// The lowest channel ready to send.
+pub fn lowest_ready(m: &[u8; 256], longest: u8) -> Choice
+    ensures { λ r. ⌜ r ≡ rule.lowestReady (now (m .entry)) longest ⌝ }
+{
+    let mut channel: u8 = 0;
+    while channel < channels::CHANNELS {
+        if ready(m, longest, channel) {
+            return Choice::Lowest(channel);
+        }
+        channel += 1;
+    }
+    Choice::Nothing
+}

@@ -1,0 +1,20 @@
+use borrow.Author.Needs.{needs}
+use Rattle.rules.specs.Registers.{lineStatus}
+use Rattle.status.proofs.line_status.Statement.{statement}
+use Rattle.status.proofs.line_status.Tie as tie
+
+pub line-status-spec : {M : Type 1} → statement M
+unfolding lineStatus
+line-status-spec =
+    tie.close (tie.spec
+    (λ c κs. tt)
+    (λ c. search needs)
+    (λ c κs. tt)
+    (λ c. search needs)
+    (λ c. search needs)
+    (λ c κs. tt)
+    (λ c. search needs)
+    (λ c. search needs)
+    (λ c κs. tt)
+    (λ c. search needs)
+    (λ c. simp (← (c .bit4 .ensures .0), ← (c .before .bit3 .ensures .0), ← (c .before .before .bit2 .ensures .0), ← (c .before .before .before .bit .ensures .0))))
