@@ -1,4 +1,4 @@
-// An attempt to send: its stages, its judgement slot by slot, and what it spends (01, Sending).
+// An attempt to send: its judgement slot by slot, and what it spends (01, Sending).
 ghost use mathlib.Core.Path.{_≡_};
 ghost use Prim.Native.Nat.{_<_};
 ghost use Rattle.rules.specs.Attempt as rule;
@@ -45,81 +45,6 @@ fn more_attempts(t: Attempts) -> Attempts
         return Attempts(x + 1);
     }
     t
-}
-
-// A service starts with nothing spent.
-pub fn no_counts() -> Counters
-    ensures { λ r. ⌜ r ≡ rule.noCounts ⌝ }
-{
-    Counters {
-        slots: Timeslots(0),
-        lost: Attempts(0),
-        errors: Attempts(0),
-    }
-}
-
-// ---- the stage
-
-// A place in a service.
-pub fn at_stage(stage: Stage, at: u16) -> Progress
-    ensures { λ r. ⌜ r ≡ rule.atStage stage at ⌝ }
-{
-    Progress {
-        stage: stage,
-        at: at,
-    }
-}
-
-// TXG.
-pub fn in_service(p: Progress) -> bool
-    ensures { λ r. ⌜ r ≡ rule.inService p ⌝ }
-{
-    let stage = p.stage;
-    match stage {
-        Stage::Resting => false, // no service
-        Stage::Waiting => true, // also between attempts
-        Stage::Opening => true,
-        Stage::Sending => true,
-    }
-}
-
-// In a service and between attempts: a first level answered and not yet sampled is no attempt.
-pub fn between_attempts(p: Progress) -> bool
-    ensures { λ r. ⌜ r ≡ rule.betweenAttempts p ⌝ }
-{
-    let stage = p.stage;
-    match stage {
-        Stage::Resting => false,
-        Stage::Waiting => true,
-        Stage::Opening => true, // not sampled yet
-        Stage::Sending => false, // in an attempt
-    }
-}
-
-// In a service, with no level answered.
-pub fn waits(p: Progress) -> bool
-    ensures { λ r. ⌜ r ≡ rule.waits p ⌝ }
-{
-    let stage = p.stage;
-    match stage {
-        Stage::Resting => false,
-        Stage::Waiting => true, // nothing answered
-        Stage::Opening => false, // a level answered
-        Stage::Sending => false,
-    }
-}
-
-// A level of the frame is driven in the slot to come.
-pub fn drives_frame(p: Progress) -> bool
-    ensures { λ r. ⌜ r ≡ rule.drivesFrame p ⌝ }
-{
-    let stage = p.stage;
-    match stage {
-        Stage::Resting => false,
-        Stage::Waiting => false, // nothing to drive
-        Stage::Opening => true, // the first level
-        Stage::Sending => true,
-    }
 }
 
 // ---- the sender's judgement
@@ -214,7 +139,7 @@ fn judge(e: Effort, v: u8) -> Verdict
     ensures { λ r. ⌜ r ≡ rule.judge e v ⌝ }
 {
     let p = e.progress;
-    if drives_frame(p) {
+    if stage::drives_frame(p) {
         let x = e.frame;
         return judge_slot(x, p.at, v);
     }
@@ -269,12 +194,12 @@ fn advance(w: Verdict, e: Effort) -> Effort
         Verdict::Unjudged => e,
         Verdict::Goes => with_progress(
             e,
-            at_stage(Stage::Sending, e.progress.at + 1),
+            stage::at_stage(Stage::Sending, e.progress.at + 1),
             slot_spent(c),
         ),
-        Verdict::Lost => with_progress(e, at_stage(Stage::Waiting, 0), lost_spent(c)),
-        Verdict::Failed(_) => with_progress(e, at_stage(Stage::Waiting, 0), error_spent(c)),
-        Verdict::Done => with_progress(e, at_stage(Stage::Waiting, 0), slot_spent(c)),
+        Verdict::Lost => with_progress(e, stage::at_stage(Stage::Waiting, 0), lost_spent(c)),
+        Verdict::Failed(_) => with_progress(e, stage::at_stage(Stage::Waiting, 0), error_spent(c)),
+        Verdict::Done => with_progress(e, stage::at_stage(Stage::Waiting, 0), slot_spent(c)),
     }
 }
 

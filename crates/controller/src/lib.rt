@@ -24,7 +24,7 @@ pub fn pin_reset(c: Controller) -> Outcome
 {
     let mut t = c;
     let x = host::pin_reset_on(&mut t.memory, c.core);
-    let k = x.next;
+    let k = x.next; // the state reset
     t.core = k;
     let reply = x.reply;
     Outcome { reply, next: t }
@@ -57,7 +57,7 @@ pub fn slot(c: Controller, levels: u16) -> Outcome
 {
     let mut t = c;
     let x = slots::slot_on(&mut t.memory, c.core, levels);
-    let k = x.next;
+    let k = x.next; // the state that the slot leaves
     t.core = k;
     let reply = x.reply;
     Outcome { reply, next: t }

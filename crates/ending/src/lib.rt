@@ -26,8 +26,8 @@ pub fn resting() -> Service
                 bytes: [0u8; 34],
             },
             setting: 0,
-            progress: attempt::at_stage(Stage::Resting, 0),
-            counters: attempt::no_counts(),
+            progress: stage::at_stage(Stage::Resting, 0),
+            counters: stage::no_counts(),
         },
     }
 }
@@ -39,7 +39,7 @@ pub fn stopped(s: Service) -> Ending
     ensures { λ r. ⌜ r ≡ rule.stopped s ⌝ }
 {
     let e = s.effort;
-    if attempt::between_attempts(e.progress) {
+    if stage::between_attempts(e.progress) {
         if attempt::exhausted(e) {
             return Ending::Exhausted;
         }

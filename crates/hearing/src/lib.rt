@@ -17,10 +17,10 @@ pub fn line_after(h: Hearing, l: Line, v: u8) -> Line
     ensures { λ r. ⌜ r ≡ rule.lineAfter h l v ⌝ }
 {
     match h {
-        Hearing::Silent => reception::counted(l, v),
+        Hearing::Silent => free_line::counted(l, v),
         Hearing::Follows => l,
-        Hearing::Fault(_) => reception::unsettled(),
-        Hearing::Good => reception::after_good(),
+        Hearing::Fault(_) => free_line::unsettled(),
+        Hearing::Good => free_line::after_good(),
     }
 }
 
@@ -273,7 +273,7 @@ pub fn hear_quiet(l: Line, v: u8) -> Hearing
     ensures { λ h. ⌜ h ≡ rule.hearQuiet l v ⌝ }
 {
     if v == 0 {
-        if reception::takes_start(l) {
+        if free_line::takes_start(l) {
             return Hearing::Follows;
         }
         return Hearing::Silent;

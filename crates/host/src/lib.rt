@@ -1,11 +1,9 @@
-// Pin reset and host access over a lent memory map: commands, registers, refusals (01, Memory map; Numbers refused).
+// Pin reset and host access over a lent memory map: registers, refusals (01, Memory map; Numbers refused).
 ghost use mathlib.Core.Path.{_≡_};
 ghost use Prim.Native.Nat.{_%_};
 ghost use lib.Dec.{eqb};
 ghost use Rattle.line.specs.Bits.{pick};
 ghost use Rattle.rules.specs.Host as rule;
-ghost use Rattle.rules.specs.Mailbox as mailbox;
-ghost use Rattle.rules.specs.State as core;
 ghost use Rattle.rules.specs.Run as run;
 ghost use Rattle.rules.specs.Answers as answers;
 use registers::Map;
@@ -13,138 +11,6 @@ use rules::Core;
 use rules::CoreOutcome;
 use rules::Refusal;
 use rules::Reply;
-use rules::Service;
-
-// ---- commands: GRES, SLEEP, IDLE, ACTI, and REAR
-
-// GRES: it acts before all else.
-fn resets(address: usize, v: u8) -> bool
-    ensures { λ r. ⌜ r ≡ rule.resets address v ⌝ }
-{
-    if address == Map::COMMAND {
-        return Map::asks_reset(v);
-    }
-    false
-}
-
-// SLEEP: it acts unless GRES does.
-fn sleeps(address: usize, v: u8) -> bool
-    ensures { λ r. ⌜ r ≡ rule.sleeps address v ⌝ }
-{
-    if address == Map::COMMAND {
-        return Map::asks_sleep(v);
-    }
-    false
-}
-
-// Only the first one set acts.
-fn mode_commanded(k: Core, v: u8) -> Core
-    ensures { λ r. ⌜ r ≡ rule.modeCommanded k v ⌝ }
-{
-    if Map::asks_idle(v) {
-        return state::idle_asked(k);
-    }
-    if Map::asks_activation(v) {
-        return state::activated(k);
-    }
-    k
-}
-
-fn rear_commanded(s: Service, v: u8) -> Service
-    ensures { λ r. ⌜ r ≡ rule.rearCommanded s v ⌝ }
-{
-    if Map::asks_rearbitration(v) {
-        return service::rear_asked(s);
-    }
-    s
-}
-
-// ---- an accepted write
-
-// The byte as written; commands and interrupt resets act and are not kept.
-fn keep_byte(m: &mut [u8; 256], address: usize, v: u8)
-    ensures { λ _. ⌜ now (m .exit) ≡ rule.keptByte (now (m .entry)) address v ⌝ }
-{
-    if Map::write_only(address) {
-        return;
-    }
-    m[address % 256] = v;
-}
-
-fn flags_cleared(k: Core, v: u8) -> Core
-    ensures { λ r. ⌜ r ≡ rule.flagsCleared k v ⌝ }
-{
-    let mut x = k.report;
-    x.flags = status::cleared(x.flags, v);
-    let mut t = k;
-    t.report = x;
-    t
-}
-
-fn core_written(k: Core, address: usize, v: u8) -> Core
-    ensures { λ r. ⌜ r ≡ rule.coreWritten k address v ⌝ }
-{
-    if address == Map::COMMAND {
-        return mode_commanded(k, v);
-    }
-    if address == Map::INTERRUPT_RESET {
-        return flags_cleared(k, v);
-    }
-    k
-}
-
-// What a write asks of the service: REAR, or an abort.
-fn service_asked(s: Service, address: usize, v: u8) -> Service
-    ensures { λ r. ⌜ r ≡ rule.serviceAsked s address v ⌝ }
-{
-    if address == Map::COMMAND {
-        return rear_commanded(s, v);
-    }
-    if service::aborts(s, address, v) {
-        return service::abort_asked(s);
-    }
-    s
-}
-
-// A service asked to stop between attempts ends at once; a waiting idle is then due.
-fn stopped_core(k: Core, s: Service) -> Core
-    ensures { λ r. ⌜ r ≡ rule.stoppedCore k s ⌝ }
-{
-    let x = ending::stopped(s);
-    let mut t = k;
-    t.report = ending::report_ended(x, k.report, s);
-    t.service = ending::settled(x, s);
-    state::idle_due(t)
-}
-
-fn byte_written(m: &mut [u8; 256], k: Core, address: usize, v: u8) -> Core
-    ensures { λ r. ⌜ answers.controller (now (m .exit)) r ≡ rule.byteWritten (answers.controller (now (m .entry)) k) address v ⌝ }
-{
-    let s = service_asked(k.service, address, v);
-    keep_byte(m, address, v);
-    ending::end_memory(m, ending::stopped(s), k.service.channel);
-    stopped_core(core_written(k, address, v), s)
-}
-
-fn reset(m: &mut [u8; 256]) -> Core
-    ensures map { λ r. ⌜ now (m .exit) ≡ mailbox.resetMemory (now (m .entry)) ⌝ }
-    ensures core { λ r. ⌜ r ≡ core.resetCore ⌝ }
-{
-    *m = Map::reset_memory(*m);
-    state::reset_core()
-}
-
-fn written(m: &mut [u8; 256], k: Core, address: usize, v: u8) -> Core
-    ensures { λ r. ⌜ answers.controller (now (m .exit)) r ≡ rule.written (answers.controller (now (m .entry)) k) address v ⌝ }
-{
-    if resets(address, v) {
-        return reset(m);
-    }
-    if sleeps(address, v) {
-        return state::slept(k);
-    }
-    byte_written(m, k, address, v)
-}
 
 // ---- an accepted read
 
@@ -196,7 +62,7 @@ pub fn pin_reset_on(m: &mut [u8; 256], k: Core) -> CoreOutcome
     ensures { λ r. ⌜ answers.answerLent r (now (m .exit)) ≡ run.pinReset (answers.controller (now (m .entry)) k) ⌝ }
 {
     if state::in_range(k) {
-        let t = reset(m);
+        let t = command::reset(m);
         return CoreOutcome {
             reply: Reply::Accepted(0),
             next: t,
@@ -233,9 +99,9 @@ fn write_on(m: &mut [u8; 256], k: Core, address: u16, value: u16) -> CoreOutcome
     }
     let v = (value % 256) as u8;
     if Map::fixed_bits(a, v) {
-        let t = written(m, k, a, v);
+        let t = command::written(m, k, a, v);
         return CoreOutcome {
-            reply: Reply::Accepted(0),
+            reply: Reply::Accepted(0), // only here the map changes
             next: t,
         };
     }
@@ -250,7 +116,7 @@ pub fn host_write_on(m: &mut [u8; 256], k: Core, address: u16, value: u16) -> Co
     ensures { λ r. ⌜ answers.answerLent r (now (m .exit)) ≡ run.hostWrite (answers.controller (now (m .entry)) k) address value ⌝ }
 {
     if state::in_range(k) {
-        if state::is_asleep(k.activity) {
+        if state::is_asleep(k.activity) { // 7 before 1
             return CoreOutcome {
                 reply: Reply::Refused(Refusal::Asleep),
                 next: k,

@@ -18,7 +18,7 @@ use rules::Verdict;
 pub fn role_of(p: Progress, here: Place) -> Role
     ensures { λ r. ⌜ r ≡ rule.roleOf p here ⌝ }
 {
-    if attempt::drives_frame(p) {
+    if stage::drives_frame(p) {
         return Role::Sender;
     }
     if reception::under_way(here) {
@@ -40,8 +40,8 @@ fn chosen(m: &[u8; 256], c: u8) -> Service
         effort: Effort {
             frame: memory::coded_of(m, c),
             setting: Map::retry_setting(m[Map::TRANSMIT_CONTROL]),
-            progress: attempt::at_stage(Stage::Waiting, 0),
-            counters: attempt::no_counts(),
+            progress: stage::at_stage(Stage::Waiting, 0),
+            counters: stage::no_counts(),
         },
     }
 }
@@ -67,7 +67,7 @@ fn opened(s: Service, k: u16) -> Service
     ensures { λ r. ⌜ r ≡ rule.opened s k ⌝ }
 {
     let mut e = s.effort;
-    e.progress = attempt::at_stage(Stage::Opening, k);
+    e.progress = stage::at_stage(Stage::Opening, k);
     let mut t = s;
     t.effort = e;
     t
@@ -78,14 +78,14 @@ pub fn started(s: Service, autonomous: bool, l: Line, r: Reception) -> Service
     ensures { λ t. ⌜ t ≡ rule.started s autonomous l r ⌝ }
 {
     let e = s.effort;
-    if attempt::waits(e.progress) {
+    if stage::waits(e.progress) {
         if reception::start_ended(r) {
             return opened(s, 10);
         }
         if reception::under_way(r.place) {
             return s;
         }
-        if (autonomous) & (reception::free(l)) {
+        if (autonomous) & (free_line::free(l)) {
             return opened(s, 0);
         }
         return s;
@@ -110,7 +110,7 @@ pub fn rear_asked(s: Service) -> Service
 {
     let e = s.effort;
     let mut t = s;
-    t.rear = attempt::in_service(e.progress);
+    t.rear = stage::in_service(e.progress);
     t
 }
 
@@ -119,7 +119,7 @@ pub fn aborts(s: Service, address: usize, value: u8) -> bool
     ensures { λ r. ⌜ r ≡ rule.aborts s address value ⌝ }
 {
     let e = s.effort;
-    if attempt::in_service(e.progress) {
+    if stage::in_service(e.progress) {
         if address == channels::base(s.channel) + 3 {
             return channels::cher(value);
         }

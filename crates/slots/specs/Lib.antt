@@ -1,1 +1,1 @@
-pub mod Ordinary
+pub mod Follow

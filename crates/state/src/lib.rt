@@ -22,7 +22,7 @@ pub fn is_active(a: Activity) -> bool
     match mode {
         Mode::Idle => false,
         Mode::Active => true,
-        Mode::Asleep => false,
+        Mode::Asleep => false, // it takes no slot
     }
 }
 
@@ -31,7 +31,7 @@ pub fn is_asleep(a: Activity) -> bool
 {
     let mode = a.mode;
     match mode {
-        Mode::Idle => false,
+        Mode::Idle => false, // it answers the host
         Mode::Active => false,
         Mode::Asleep => true,
     }
@@ -43,7 +43,7 @@ pub fn is_idle(a: Activity) -> bool
     let mode = a.mode;
     match mode {
         Mode::Idle => true,
-        Mode::Active => false,
+        Mode::Active => false, // even while an idle waits
         Mode::Asleep => false,
     }
 }
@@ -59,7 +59,7 @@ pub fn serving(s: Service) -> bool
     ensures { λ r. ⌜ r ≡ rule.serving s ⌝ }
 {
     let e = s.effort;
-    attempt::in_service(e.progress)
+    stage::in_service(e.progress)
 }
 
 // ---- number 6: a state number outside its range, one by one
@@ -172,7 +172,7 @@ pub fn reset_core() -> Core
     Core {
         activity: in_mode(Mode::Idle, false),
         report: Map::reset_report(),
-        line: reception::unsettled(),
+        line: free_line::unsettled(),
         reception: reception::quiet(),
         service: ending::resting(),
     }
@@ -237,6 +237,6 @@ pub fn activated(k: Core) -> Core
         return t;
     }
     t.activity = in_mode(Mode::Active, false);
-    t.line = reception::unsettled();
+    t.line = free_line::unsettled();
     t
 }

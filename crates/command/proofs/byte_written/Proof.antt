@@ -1,0 +1,19 @@
+use mathlib.Core.Path.{refl}
+use borrow.Author.Tests.{lt-ltb, le-ltb, le-leb, lt-leb, eq-eqb, ne-eqb}
+use Rattle.rules.specs.Host.{byteWritten, keptByte}
+use Rattle.rules.specs.Service.{memoryEnded}
+use Rattle.rules.specs.Mailbox.{markedChtx, markedCher}
+use Rattle.command.proofs.byte_written.Statement.{statement}
+use Rattle.command.proofs.byte_written.Tie as tie
+
+pub byte-written-spec : {M : Type 1} → statement M
+unfolding byteWritten keptByte memoryEnded markedChtx markedCher
+byte-written-spec =
+    tie.close (tie.spec
+    (λ c κs. tt)
+    (λ c κs. tt)
+    (λ c κs. tt)
+    (λ c κs. tt)
+    (λ c κs. tt)
+    (λ c κs. tt)
+    (λ c. simp (← (c .stopped-core .ensures), ← (c .before .core-written .ensures), ← (c .before .before .end-memory .ensures), ← (c .before .before .before .stopped .ensures), ← (c .before .before .before .before .before .keep-byte .ensures), ← (c .before .before .before .before .before .before .before .service-asked .ensures))))

@@ -1,0 +1,15 @@
+use borrow.Author.Needs.{needs}
+use mathlib.Core.Path.{refl}
+use borrow.Author.Tests.{lt-ltb, le-ltb, le-leb, lt-leb, eq-eqb, ne-eqb}
+use Rattle.rules.specs.Host.{keptByte}
+use Rattle.command.proofs.keep_byte.Statement.{statement}
+use Rattle.command.proofs.keep_byte.Tie as tie
+
+pub keep-byte-spec : {M : Type 1} → statement M
+unfolding keptByte
+keep-byte-spec =
+    tie.close (tie.spec
+    (λ c κs. tt)
+    (λ c. simp (c .if1 .taken, ← (c .before .write-only .ensures)))
+    (λ c. search needs)
+    (λ c. simp (c .if1 .left, ← (c .before .write-only .ensures))))

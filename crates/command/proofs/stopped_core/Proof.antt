@@ -1,0 +1,16 @@
+use mathlib.Core.Path.{refl}
+use borrow.Author.Tests.{lt-ltb, le-ltb, le-leb, lt-leb, eq-eqb, ne-eqb}
+use Rattle.rules.specs.Host.{stoppedCore}
+use Rattle.rules.specs.State.{withService, withReport}
+use Rattle.command.proofs.stopped_core.Statement.{statement}
+use Rattle.command.proofs.stopped_core.Tie as tie
+
+pub stopped-core-spec : {M : Type 1} → statement M
+unfolding stoppedCore withService withReport
+stopped-core-spec =
+    tie.close (tie.spec
+    (λ c κs. tt)
+    (λ c κs. tt)
+    (λ c κs. tt)
+    (λ c κs. tt)
+    (λ c. simp (← (c .idle-due .ensures), ← (c .before .settled .ensures), ← (c .before .before .report-ended .ensures), ← (c .before .before .before .stopped .ensures))))

@@ -1,0 +1,140 @@
+// What an accepted write and a reset do over the lent memory map: commands, flags, abort (01, Memory map).
+ghost use mathlib.Core.Path.{_≡_};
+ghost use Rattle.rules.specs.Host as rule;
+ghost use Rattle.rules.specs.Mailbox as mailbox;
+ghost use Rattle.rules.specs.State as core;
+ghost use Rattle.rules.specs.Answers as answers;
+use registers::Map;
+use rules::Core;
+use rules::Service;
+
+// ---- commands: GRES, SLEEP, IDLE, ACTI, and REAR
+
+// GRES: it acts before all else.
+fn resets(address: usize, v: u8) -> bool
+    ensures { λ r. ⌜ r ≡ rule.resets address v ⌝ }
+{
+    if address == Map::COMMAND {
+        return Map::asks_reset(v);
+    }
+    false
+}
+
+// SLEEP: it acts unless GRES does.
+fn sleeps(address: usize, v: u8) -> bool
+    ensures { λ r. ⌜ r ≡ rule.sleeps address v ⌝ }
+{
+    if address == Map::COMMAND {
+        return Map::asks_sleep(v);
+    }
+    false
+}
+
+// Only the first one set acts.
+fn mode_commanded(k: Core, v: u8) -> Core
+    ensures { λ r. ⌜ r ≡ rule.modeCommanded k v ⌝ }
+{
+    if Map::asks_idle(v) {
+        return state::idle_asked(k);
+    }
+    if Map::asks_activation(v) {
+        return state::activated(k);
+    }
+    k
+}
+
+fn rear_commanded(s: Service, v: u8) -> Service
+    ensures { λ r. ⌜ r ≡ rule.rearCommanded s v ⌝ }
+{
+    if Map::asks_rearbitration(v) {
+        return service::rear_asked(s);
+    }
+    s
+}
+
+// ---- an accepted write
+
+// The byte as written; commands and interrupt resets act and are not kept.
+fn keep_byte(m: &mut [u8; 256], address: usize, v: u8)
+    ensures { λ _. ⌜ now (m .exit) ≡ rule.keptByte (now (m .entry)) address v ⌝ }
+{
+    if Map::write_only(address) {
+        return;
+    }
+    m[address % 256] = v;
+}
+
+fn flags_cleared(k: Core, v: u8) -> Core
+    ensures { λ r. ⌜ r ≡ rule.flagsCleared k v ⌝ }
+{
+    let mut x = k.report;
+    x.flags = status::cleared(x.flags, v);
+    let mut t = k;
+    t.report = x;
+    t
+}
+
+fn core_written(k: Core, address: usize, v: u8) -> Core
+    ensures { λ r. ⌜ r ≡ rule.coreWritten k address v ⌝ }
+{
+    if address == Map::COMMAND {
+        return mode_commanded(k, v);
+    }
+    if address == Map::INTERRUPT_RESET {
+        return flags_cleared(k, v);
+    }
+    k
+}
+
+// What a write asks of the service: REAR, or an abort.
+fn service_asked(s: Service, address: usize, v: u8) -> Service
+    ensures { λ r. ⌜ r ≡ rule.serviceAsked s address v ⌝ }
+{
+    if address == Map::COMMAND {
+        return rear_commanded(s, v);
+    }
+    if service::aborts(s, address, v) {
+        return service::abort_asked(s);
+    }
+    s
+}
+
+// A service asked to stop between attempts ends at once; a waiting idle is then due.
+fn stopped_core(k: Core, s: Service) -> Core
+    ensures { λ r. ⌜ r ≡ rule.stoppedCore k s ⌝ }
+{
+    let x = ending::stopped(s);
+    let mut t = k;
+    t.report = ending::report_ended(x, k.report, s);
+    t.service = ending::settled(x, s);
+    state::idle_due(t)
+}
+
+fn byte_written(m: &mut [u8; 256], k: Core, address: usize, v: u8) -> Core
+    ensures { λ r. ⌜ answers.controller (now (m .exit)) r ≡ rule.byteWritten (answers.controller (now (m .entry)) k) address v ⌝ }
+{
+    let s = service_asked(k.service, address, v);
+    keep_byte(m, address, v);
+    ending::end_memory(m, ending::stopped(s), k.service.channel);
+    stopped_core(core_written(k, address, v), s)
+}
+
+pub fn reset(m: &mut [u8; 256]) -> Core
+    ensures map { λ r. ⌜ now (m .exit) ≡ mailbox.resetMemory (now (m .entry)) ⌝ }
+    ensures core { λ r. ⌜ r ≡ core.resetCore ⌝ }
+{
+    *m = Map::reset_memory(*m);
+    state::reset_core()
+}
+
+pub fn written(m: &mut [u8; 256], k: Core, address: usize, v: u8) -> Core
+    ensures { λ r. ⌜ answers.controller (now (m .exit)) r ≡ rule.written (answers.controller (now (m .entry)) k) address v ⌝ }
+{
+    if resets(address, v) {
+        return reset(m);
+    }
+    if sleeps(address, v) {
+        return state::slept(k);
+    }
+    byte_written(m, k, address, v)
+}

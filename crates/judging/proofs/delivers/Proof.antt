@@ -1,0 +1,22 @@
+use borrow.Author.Needs.{needs}
+use mathlib.Core.Path.{refl}
+use borrow.Author.Tests.{lt-ltb, le-ltb, le-leb, lt-leb, eq-eqb, ne-eqb}
+use Rattle.rules.specs.Slots.{delivers}
+use Rattle.judging.proofs.delivers.Statement.{statement}
+use Rattle.judging.proofs.delivers.Tie as tie
+
+pub delivers-spec : {M : Type 1} → statement M
+unfolding delivers
+delivers-spec =
+    tie.close (tie.spec
+    (λ c. search needs)
+    (λ c κs. tt)
+    (λ c. search needs)
+    (λ c. search needs)
+    (λ c. search needs)
+    (λ c. search needs)
+    (λ c. simp (← (c .delivery-of .ensures), c .before .enum-told .given .1))
+    (λ c. simp (c .enum-told2 .given .1))
+    (λ c. simp (c .enum-told3 .given .1))
+    (λ c. simp (c .enum-told4 .given .1))
+    (λ c. simp (c .enum-told5 .given .1)))

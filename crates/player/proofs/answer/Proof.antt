@@ -1,0 +1,27 @@
+use mathlib.Core.Path.{_≡_, refl, ap, sym, _∙_}
+use native.Mathlib.Omega.{arith}
+use borrow.Author.Needs.{needs}
+use Rattle.rules.specs.Answers.{answerLent, refusedBy, valueOf}
+use Rattle.rules.specs.Run.{step, accept}
+use Rattle.player.specs.Player.{answerTo}
+use Rattle.player.proofs.answer.Statement.{statement}
+use Rattle.player.proofs.answer.Tie as tie
+
+pub answer-spec : {M : Type 1} → statement M
+unfolding answerTo step accept answerLent refusedBy valueOf
+answer-spec =
+    tie.close (tie.spec
+    (λ c. search needs)
+    (λ c κs. tt)
+    (λ c. search needs)
+    (λ c κs. tt)
+    (λ c. search needs)
+    (λ c κs. tt)
+    (λ c. search needs)
+    (λ c κs. tt)
+    (λ c. search needs)
+    (λ c. rw (c .before .before .enum-told .given .1) (c .pin-reset-on .ensures))
+    (λ c. rw (c .before .before .before .e .given .1) (c .host-write-on .ensures))
+    (λ c. rw (c .before .before .before .e2 .given .1) (c .host-read-on .ensures))
+    (λ c. rw (c .before .before .before .e3 .given .1) (c .slot-on .ensures))
+    (λ c. rw (c .enum-told2 .given .1)))

@@ -1,0 +1,23 @@
+use mathlib.Core.Path.{_≡_, refl, ap, sym, _∙_}
+use native.Mathlib.Omega.{arith}
+use borrow.Author.Needs.{needs}
+use Rattle.player.specs.Laws.{event-laid, event-next}
+use Rattle.listing.specs.Laws.{line-laid}
+use Rattle.player.proofs.play_event.Statement.{statement}
+use Rattle.player.proofs.play_event.Tie as tie
+
+pub play-event-spec : {M : Type 1} → statement M
+play-event-spec =
+    tie.close (tie.spec
+    (λ c κs. tt)
+    (λ c κs. tt)
+    (λ c κs. tt)
+    (λ c κs. tt)
+    (λ c. omega arith)
+    (λ c. let x = c .before .before .before .before .before .before .before .before .before .before .args in (
+      event-next _ _ _ (c .before .before .before .before .before .before .before .answer .ensures),
+      (
+        event-laid _ _ _ (c .before .before .before .before .before .before .before .answer .ensures) _ _ (c .before .before .before .before .refused-by .ensures) (c .before .before .before .value-of .ensures) (x .room .now) (x .at) (x .index) (x .e) _ _ (line-laid {room = x .room .now} {at = x .at} (omega arith) (c .before .before .put-line .ensures .0) (c .before .before .put-line .ensures .1 .0)),
+        c .before .before .put-line .ensures .1 .1,
+      ),
+    )))

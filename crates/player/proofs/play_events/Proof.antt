@@ -1,0 +1,58 @@
+use mathlib.Core.Path.{_≡_, refl, ap, sym, _∙_}
+use native.Mathlib.Omega.{arith}
+use borrow.Author.Needs.{needs}
+use Prim.Native.Nat.{_≤_, _-_, _+_, _*_}
+use lib.ListN.{length}
+use Rattle.session.specs.Reading.{eventsAt}
+use Rattle.rules.specs.Run.{fresh}
+use Rattle.rules.specs.Answers.{controller}
+use Rattle.listing.specs.Laws.{line-laid}
+use Rattle.player.specs.Player.{body}
+use Rattle.player.specs.Laws.{Goes, begun, other-rest, first-rest, bad-line, bad-laid, stepped, last-line, laid-all}
+use Rattle.player.proofs.Bytes.{step-fits}
+use Rattle.player.proofs.play_events.Statement.{statement}
+use Rattle.player.proofs.play_events.Tie as tie
+
+abbrev Inv-loop : tie.InvT-loop
+Inv-loop s count first room₀ at m₀ k₀ from₀ place₀ index₀ room m k from place index =
+    (index ≤ count) × (length room ≡ length room₀) × (place ≤ at + 80 * index)
+    × Goes room₀ at (body fresh 0 count (eventsAt count s first)) room place (body (controller m k) index count (eventsAt (count - index) s from))
+
+abbrev μ-loop : tie.MeasureT-loop
+μ-loop s count first room₀ at m₀ k₀ from₀ place₀ index₀ room m k from place index = count - index
+
+pub play-events-spec : {M : Type 1} → statement M
+play-events-spec =
+    tie.close (tie.spec Inv-loop μ-loop
+    (λ c κs. tt)
+    (λ c. let x = c .before .before .before .before .before .args in (omega arith, refl, omega arith, other-rest (first-rest _ (c .before .before .fresh .ensures) (x .s .now) (x .count) (x .first)) (begun (x .room .now) (x .at) _)))
+    (λ c κs. tt)
+    (λ c. search needs)
+    (λ c κs. tt)
+    (λ c κs. tt)
+    (λ c. omega arith)
+    (λ c. let x = c .before .before .before .before .before .before .before .before .before .before .before .before .before .before .before .before .args in
+    let l = c .before .before .before .before .before .before .before .before .before .before .loop in (
+      bad-laid _ _ _ (l .inv .3) (bad-line (controller (l .m) (l .k)) (x .s .now) (x .count) (l .index) (l .from) (c .before .before .before .before .before .before .before .before .before .loop-test .taken) (sym (c .before .before .before .before .before .before .before .before .event-from .ensures) ∙ c .before .before .before .before .before .before .f .given .1)) (c .before .before .before .code-of .ensures)
+          (line-laid {room = l .room} {at = l .place} (omega arith) (c .before .before .put-bad .ensures .0) (c .before .before .put-bad .ensures .1 .0)),
+      (let b = c .before .before .put-bad .ensures .1 .1 in omega arith),
+    ))
+    (λ c. search needs)
+    (λ c κs. omega arith)
+    (λ c. step-fits (c .before .before .before .before .before .before .before .before .before .before .before .loop .index) (c .before .before .before .before .before .before .before .before .before .before .before .before .before .before .before .before .before .args .count) (c .before .before .before .before .before .before .before .before .before .before .loop-test .taken) (c .before .before .before .before .before .before .before .before .before .before .before .before .before .before .before .before .before .fits .count))
+    (λ c. omega arith)
+    (λ c. let x = c .before .before .before .before .before .before .before .before .before .before .before .before .before .before .before .before .before .args in
+    let l = c .before .before .before .before .before .before .before .before .before .before .before .loop in
+    let b = c .before .before .before .play-event .ensures .1 .1 in (
+      omega arith,
+      omega arith,
+      omega arith,
+      stepped (controller (l .m) (l .k)) _ (x .s .now) (x .count) (l .index) (l .from) (l .inv .3) (c .before .before .before .before .before .before .before .before .before .before .loop-test .taken) (sym (c .before .before .before .before .before .before .before .before .before .event-from .ensures) ∙ c .before .before .before .before .before .before .before .e .given .1) (c .before .before .before .play-event .ensures .0) (c .before .before .before .play-event .ensures .1 .0),
+    ))
+    (λ c κs. omega arith)
+    (λ c. omega arith)
+    (λ c. let x = c .before .before .before .before .before .before .before .before .before .before .before .args in
+    let l = c .before .before .before .before .before .loop in (
+      laid-all (other-rest (last-line (controller (l .m) (l .k)) (x .s .now) (x .count) (l .index) (l .from) (c .before .before .before .before .loop-test .left)) (l .inv .3)) (c .before .before .put-closing .ensures .0),
+      (let b = c .before .before .put-closing .ensures .1 in omega arith),
+    )))

@@ -1,0 +1,16 @@
+use mathlib.Core.Path.{_≡_, refl, ap, sym, _∙_}
+use native.Mathlib.Omega.{arith}
+use borrow.Author.Needs.{needs}
+use Rattle.rules.specs.Answers.{refusedBy}
+use Rattle.player.proofs.refused_by.Statement.{statement}
+use Rattle.player.proofs.refused_by.Tie as tie
+
+pub refused-by-spec : {M : Type 1} → statement M
+unfolding refusedBy
+refused-by-spec =
+    tie.close (tie.spec
+    (λ c. search needs)
+    (λ c. search needs)
+    (λ c κs. tt)
+    (λ c. rw (c .enum-told .given .1))
+    (λ c. rw (c .before .before .reply .given .1) (c .number .ensures)))

@@ -1,0 +1,15 @@
+use mathlib.Core.Path.{_≡_, refl, ap, sym, _∙_}
+use native.Mathlib.Omega.{arith}
+use borrow.Author.Needs.{needs}
+use Rattle.rules.specs.Answers.{valueOf}
+use Rattle.player.proofs.value_of.Statement.{statement}
+use Rattle.player.proofs.value_of.Tie as tie
+
+pub value-of-spec : {M : Type 1} → statement M
+unfolding valueOf
+value-of-spec =
+    tie.close (tie.spec
+    (λ c. search needs)
+    (λ c. search needs)
+    (λ c. rw (c .before .reply .given .1))
+    (λ c. rw (c .enum-told .given .1)))

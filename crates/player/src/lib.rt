@@ -1,0 +1,197 @@
+// The bench player: a session's bytes in, its listing out (01, Session and listing).
+ghost use mathlib.Core.Path.{_≡_};
+ghost use mathlib.Core.List.{List, _++_};
+ghost use Prim.Native.Nat.{ℕ, _+_, _*_, _≤_};
+ghost use lib.ListN.{length, take};
+ghost use lib.Seq.{sets};
+ghost use Rattle.number.specs.Number.{Bytes, written};
+ghost use Rattle.session.specs.Reading as reading;
+ghost use Rattle.session.specs.Writing.{eventsBytes, AllFit};
+ghost use Rattle.session.specs.declared.Event.{Event as SessionEvent};
+ghost use Rattle.session.specs.declared.Fault.{Fault as SessionFault};
+ghost use Rattle.session.specs.declared.End.the-variants as ends;
+ghost use Rattle.rules.specs.Run as run;
+ghost use Rattle.rules.specs.Answers as answers;
+ghost use Rattle.listing.specs.Listing as text;
+ghost use Rattle.listing.specs.Laws.{Laid};
+ghost use Rattle.player.specs.Player as rule;
+ghost use Rattle.player.specs.Claims.{BeginsWith};
+use rules::Core;
+use rules::CoreOutcome;
+use rules::Reply;
+use session::End;
+use session::Event;
+use session::Header;
+use session::Item;
+
+// The listing's length, or 13: the room is too short for it.
+pub enum Played {
+    Listed(usize),
+    Short,
+}
+
+// The controller but for its map, and the place in the room, after an event.
+pub struct Step {
+    pub core: Core,
+    pub place: usize,
+}
+
+// Room for any listing: 4,096 events, a line before them and one behind.
+pub const ROOM: usize = 327840;
+
+// ---- an event
+
+fn refused_by(reply: Reply) -> u8
+    ensures { λ r. ⌜ r ≡ answers.refusedBy reply ⌝ }
+{
+    match reply {
+        Reply::Accepted(_) => 0,
+        Reply::Refused(why) => controller::number(why),
+    }
+}
+
+fn value_of(reply: Reply) -> u8
+    ensures { λ r. ⌜ r ≡ answers.valueOf reply ⌝ }
+{
+    match reply {
+        Reply::Accepted(value) => value,
+        Reply::Refused(_) => 0,
+    }
+}
+
+// A mark has no effect.
+fn answer(m: &mut [u8; 256], k: Core, e: Event) -> CoreOutcome
+    ensures { λ r. ⌜ answers.answerLent r (now (m .exit)) ≡ rule.answerTo (answers.controller (now (m .entry)) k) e ⌝ }
+{
+    match e {
+        Event::Reset => host::pin_reset_on(m, k),
+        Event::Write(address, value) => host::host_write_on(m, k, address, value),
+        Event::Read(address) => host::host_read_on(m, k, address),
+        Event::Slot(levels) => slots::slot_on(m, k, levels),
+        Event::Mark(_) => CoreOutcome {
+            reply: Reply::Accepted(0),
+            next: k,
+        },
+    }
+}
+
+// An event, and its line at a place.
+fn play_event(m: &mut [u8; 256], k: Core, index: u16, e: Event, room: &mut [u8], at: usize) -> Step
+    requires { ⌜ at + text.longest ≤ length (now room) ⌝ }
+    ensures state { λ r. ⌜ answers.controller (now (m .exit)) (r .core) ≡ (rule.answerTo (answers.controller (now (m .entry)) k) e) .next ⌝ }
+    ensures laid { λ r. ⌜ Laid (now (room .entry)) at (text.line index e ((rule.answerTo (answers.controller (now (m .entry)) k) e) .refused) ((rule.answerTo (answers.controller (now (m .entry)) k) e) .value)) (now (room .exit)) (r .place) ⌝ }
+    ensures bound { λ r. ⌜ r .place ≤ at + text.longest ⌝ }
+{
+    let a = answer(m, k, e);
+    let reply = a.reply;
+    let core = a.next;
+    let place = listing::put_line(room, at, index, e, refused_by(reply), value_of(reply));
+    Step { core, place }
+}
+
+// ---- a session
+
+// What follows the last event.
+fn put_closing(s: &[u8], from: usize, count: u16, room: &mut [u8], at: usize) -> usize
+    requires { ⌜ at + text.longest ≤ length (now room) ⌝ }
+    ensures laid { λ r. ⌜ Laid (now (room .entry)) at (rule.closing count (reading.endAt (now (s .entry)) from)) (now (room .exit)) r ⌝ }
+    ensures bound { λ r. ⌜ r ≤ at + text.longest ⌝ }
+{
+    match session::end_at(s, from) {
+        End::Clean => listing::put_end(room, at, count),
+        End::Bad(f, p) => listing::put_bad(room, at, session::code_of(f), p),
+    }
+}
+
+// The events, each with the controller that the last one left, and what closes the listing.
+fn play_events(s: &[u8], count: u16, first: usize, room: &mut [u8], at: usize) -> usize
+    requires { ⌜ at + 80 * count + 80 ≤ length (now room) ⌝ }
+    ensures laid { λ r. ⌜ Laid (now (room .entry)) at (rule.body run.fresh 0 count (reading.eventsAt count (now (s .entry)) first)) (now (room .exit)) r ⌝ }
+    ensures bound { λ r. ⌜ r ≤ at + 80 * count + 80 ⌝ }
+{
+    let c = controller::fresh();
+    let mut m = c.memory;
+    let mut k = c.core;
+    let mut from = first;
+    let mut place = at;
+    let mut index = 0u16;
+    while index < count {
+        match session::event_from(s, from) {
+            Item::Bad(f, p) => return listing::put_bad(room, place, session::code_of(f), p),
+            Item::Next(e, next) => {
+                let x = play_event(&mut m, k, index, e, room, place);
+                k = x.core;
+                place = x.place;
+                from = next;
+            }
+        }
+        index += 1;
+    }
+    put_closing(s, from, count, room, place)
+}
+
+// The listing, in room for any.
+fn put_listing(s: &[u8], room: &mut [u8]) -> usize
+    requires { ⌜ 327840 ≤ length (now room) ⌝ }
+    ensures laid { λ r. ⌜ Laid (now (room .entry)) 0 (rule.listingOf (now (s .entry))) (now (room .exit)) r ⌝ }
+    ensures bound { λ r. ⌜ r ≤ 327840 ⌝ }
+{
+    match session::header_at(s, 0) {
+        Header::Bad(f, p) => listing::put_bad(room, 0, session::code_of(f), p),
+        Header::Good(count, next) => {
+            let at = listing::put_events(room, 0, count);
+            play_events(s, count, next, room, at)
+        }
+    }
+}
+
+// ---- lent room that may be short
+
+fn space() -> [u8; 327840]
+    ensures { λ r. ⌜ 327840 ≡ length r ⌝ }
+{
+    [0; 327840]
+}
+
+fn copy(room: &mut [u8], text: &[u8])
+    requires { ⌜ length (now text) ≤ length (now room) ⌝ }
+    ensures { λ _. ⌜ now (room .exit) ≡ sets (now (room .entry)) 0 (now (text .entry)) ⌝ }
+{
+    let mut k = 0;
+    while k < text.len() {
+        room[k] = text[k];
+        k += 1;
+    }
+}
+
+// In room that may be too short for the listing: it is made aside, so that a refusal writes nothing.
+fn play_aside(s: &[u8], room: &mut [u8]) -> Played
+    ensures answer { λ r. ⌜ r ≡ rule.played (length (now (room .entry))) (rule.listingOf (now (s .entry))) ⌝ }
+    ensures room { λ r. ⌜ now (room .exit) ≡ rule.playedRoom (now (room .entry)) (rule.listingOf (now (s .entry))) ⌝ }
+{
+    let mut aside = space();
+    let n = put_listing(s, &mut aside);
+    if room.len() < n {
+        return Played::Short;
+    }
+    copy(room, &aside[..n]);
+    Played::Listed(n)
+}
+
+// The listing of a session, in lent room; or 13, and nothing is written.
+pub fn play(s: &[u8], room: &mut [u8]) -> Played
+    ensures answer { λ r. ⌜ r ≡ rule.played (length (now (room .entry))) (rule.listingOf (now (s .entry))) ⌝ }
+    ensures room { λ r. ⌜ now (room .exit) ≡ rule.playedRoom (now (room .entry)) (rule.listingOf (now (s .entry))) ⌝ }
+{
+    if room.len() < ROOM {
+        return play_aside(s, room);
+    }
+    let n = put_listing(s, room);
+    Played::Listed(n)
+}
+
+// Claim: the lines of the first events are the same whatever follows their bytes, and the lines before a `bad` whatever follows its place.
+pub fn first_lines()
+    ensures first { λ _. ⌜ ((count : ℕ) (es : List SessionEvent) → count ≤ reading.longest → length es ≤ count → AllFit es → (t : List ℕ) → BeginsWith count es (rule.listingOf (written 1 ++ written count ++ eventsBytes es ++ t))) ⌝ }
+    ensures fault { λ _. ⌜ ((s : List ℕ) → Bytes s → (count : ℕ) (r : reading.Events) → reading.session reading.longest s ≡ reading.Counted count r → (f : SessionFault) (p : ℕ) → r .end ≡ ends.Bad f p → (t : List ℕ) → BeginsWith count (r .events) (rule.listingOf (take p s ++ t))) ⌝ }
+{}
