@@ -32,6 +32,7 @@ use Rattle.rules.specs.declared.Line.{Line}
 use Rattle.rules.specs.declared.Reception.{Reception}
 use Rattle.rules.specs.declared.Timeslots.{Timeslots}
 use Rattle.rules.specs.declared.Attempts.{Attempts}
+use Rattle.rules.specs.declared.Coded.{Coded}
 use Rattle.rules.specs.declared.Stage.{Stage}
 use Rattle.rules.specs.declared.Stage.the-variants.{Resting, Waiting, Opening, Sending}
 use Rattle.rules.specs.declared.Counters.{Counters}
@@ -174,16 +175,15 @@ lost-judged Plain p = overdriven-judged p
 lost-judged First p = overdriven-judged p
 lost-judged Second p = violated-judged p
 
-pub slot-judged : (f : Frame) (k v : ℕ) → Judged (judgeSlot (coded f) k v)
+pub slot-judged : (x : Coded) (k v : ℕ) → Judged (judgeSlot x k v)
 unfolding judgeSlot difference
-slot-judged f k v =
-    go (eqb v (due (coded f) k)) (ltb (k + 1) (size (coded f .n))) (eqb (levelAt (coded f) k) 1)
+slot-judged x k v = go (eqb v (due x k)) (ltb (k + 1) (size (x .n))) (eqb (levelAt x k) 1)
   where
-    go : (a b d : Bool) → Judged (pick a (pick b Goes Done) (pick d (recessiveLost (halfOf (coded f .n) k) (partOf (coded f .n) k)) (violated (partOf (coded f .n) k))))
+    go : (a b d : Bool) → Judged (pick a (pick b Goes Done) (pick d (recessiveLost (halfOf (x .n) k) (partOf (x .n) k)) (violated (partOf (x .n) k))))
     go true true d = went
     go true false d = done
-    go false b true = lost-judged (halfOf (coded f .n) k) (partOf (coded f .n) k)
-    go false b false = violated-judged (partOf (coded f .n) k)
+    go false b true = lost-judged (halfOf (x .n) k) (partOf (x .n) k)
+    go false b false = violated-judged (partOf (x .n) k)
 
 -- ---- counts
 
@@ -318,7 +318,7 @@ in-attempt : (t : Tally) (stage : Stage) (k start : ℕ) (levels : List ℕ) (v 
     → settledAfter (made t stage k) v ≡ serviceOf (endedT (judgedAs (verdict (t .frame) k (levelAt (coded (t .frame)) k) v) t start levels))
 in-attempt t stage k start levels v b e h =
     ap (λ (w : Verdict). settled (endingOf w (serviceJudged w (made t stage k))) (serviceJudged w (made t stage k))) (judge-driving t stage k v b)
-    ∙ settle-judged (slot-judged (t .frame) k v) t stage k start levels e h
+    ∙ settle-judged (slot-judged (coded (t .frame)) k v) t stage k start levels e h
     ∙ ap (λ (x : tally.Verdict). serviceOf (endedT (judgedAs x t start levels))) (kind-same (t .frame) k v)
 
 slot-settled-in : (s : Stand) (t : Tally) (d v : ℕ) → t .stand ≡ s → (isAway s ≡ false → isBetweenStand s ≡ false → d ≡ drivenIn s t) → t .errors ≤ 15

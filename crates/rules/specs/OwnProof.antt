@@ -7,24 +7,21 @@ use mathlib.Core.List.{List, [], _∷_}
 use mathlib.Core.Path.{_≡_, refl, ap, _∙_, sym, subst}
 use native.Mathlib.Omega.{arith}
 use borrow.Author.Tests.{lt-ltb, le-ltb}
-use lib.Dec.{eqb, ltb}
+use lib.Dec.{eqb}
 use lib.ListN.{length, getD, set}
 use lib.Seq.{getD-set-other}
 use Rattle.line.specs.Bits.{pick}
-use Rattle.line.specs.Frame.{Frame, Fits, slots, size, acknowledgeSlots}
+use Rattle.line.specs.Frame.{Frame, Fits, slots, acknowledgeSlots}
 use Rattle.line.specs.Laws.{picked, level-at}
-use Rattle.line.specs.Layout.{partOf, halfOf, levelIn, levelOf}
-use Rattle.line.specs.declared.Part.{Part}
+use Rattle.line.specs.Layout.{partOf, levelIn, levelOf}
 use Rattle.line.specs.declared.Part.the-variants as part
-use Rattle.line.specs.declared.Half.{Half}
-use Rattle.line.specs.declared.Half.the-variants.{Plain, First, Second}
 use Rattle.rules.specs.Registers.{command, transmitControl, autonomous, asksRearbitration}
 use Rattle.rules.specs.Channels.{base, withCher, withChtx}
 use Rattle.rules.specs.Mailbox.{coded, markedCher, markedChtx}
 use Rattle.rules.specs.Reception.{quiet, atPlace, underWay, isUnderWay, behind, commandEnded, named}
 use Rattle.rules.specs.Hearing.{receptionAfter}
 use Rattle.rules.specs.Delivery.{deliveryOf, memoryDelivered}
-use Rattle.rules.specs.Attempt.{atStage, inService, isServing, betweenAttempts, isBetween, waits, isWaiting, drivesFrame, isDriving, levelAt, due, overdriven, violated, recessiveLost, difference, judgeSlot, judge, withProgress, advance}
+use Rattle.rules.specs.Attempt.{atStage, inService, isServing, betweenAttempts, isBetween, waits, isWaiting, drivesFrame, isDriving, levelAt, judge, withProgress, advance}
 use Rattle.rules.specs.Service.{roleOf, resting, withEffort, stopped, endingOf, settled, memoryEnded, started, abortAsked, rearAsked, aborts, hearOwn}
 use Rattle.rules.specs.State.{isActive, serving, withService, resetCore, idled, idleDue, slept}
 use Rattle.rules.specs.Slots.{heardAs, heard, delivers, serviceJudged, ending, receptionJudged, memoryJudged, coreJudged, chooses, choiceMade, startMade, followsOn, drivesAs, drives, sampleOf, judgedSlot, sampledSlot, activeSlot}
@@ -33,7 +30,7 @@ use Rattle.rules.specs.Run.{fresh, answered, restedSlot, next, after}
 use Rattle.rules.specs.Limits.{Fine}
 use Rattle.rules.specs.Frames.{level-coded}
 use Rattle.rules.specs.Tally.{Stand, away, between, opening, inside, Tally, none, isAway}
-use Rattle.rules.specs.Join.{made, serviceIn, serviceOf, Judged, went, lost, broke, done}
+use Rattle.rules.specs.Join.{made, serviceIn, serviceOf, Judged, went, lost, broke, done, slot-judged}
 use Rattle.rules.specs.Follow.{left, idle-service, follows-reception, stopped-service}
 use Rattle.rules.specs.Promise.{accepted, nextT}
 use Rattle.rules.specs.Bound.{good-none}
@@ -42,7 +39,6 @@ use Rattle.rules.specs.Steps.{Step, step-of, refused-next, refused-not, 
 use Rattle.rules.specs.Demand3.{Joined, joined-next}
 use Rattle.rules.specs.Reach.{fine-fresh, fine-next}
 use Rattle.rules.specs.Own.{sends, statusAt, Ended, whole, error, Own, Left, on, gone, Between, OwnIn, Owned, OwnFrames}
-use Rattle.rules.specs.declared.Coded.{Coded}
 use Rattle.rules.specs.declared.Stage.{Stage}
 use Rattle.rules.specs.declared.Stage.the-variants.{Opening, Sending}
 use Rattle.rules.specs.declared.Reception.{Reception}
@@ -51,7 +47,7 @@ use Rattle.rules.specs.declared.Delivery.the-variants.{Nothing}
 use Rattle.rules.specs.declared.Effort.{Effort}
 use Rattle.rules.specs.declared.Service.{Service}
 use Rattle.rules.specs.declared.Verdict.{Verdict}
-use Rattle.rules.specs.declared.Verdict.the-variants.{Unjudged, Goes, Done}
+use Rattle.rules.specs.declared.Verdict.the-variants.{Unjudged, Goes}
 use Rattle.rules.specs.declared.Ending.{Ending}
 use Rattle.rules.specs.declared.Ending.the-variants.{Going, Sent, Exhausted, Aborted, Rearbitrated}
 use Rattle.rules.specs.declared.Role.{Role}
@@ -62,46 +58,6 @@ use Rattle.rules.specs.declared.Event.{Event}
 use Rattle.rules.specs.declared.Event.the-variants.{Reset, Write, Read, Slot}
 
 -- ---- a sample of an attempt is judged
-
-overdriven-judged : (p : Part) → Judged (overdriven p)
-unfolding overdriven
-overdriven-judged part.Start = broke
-overdriven-judged part.Identifier = lost
-overdriven-judged part.Command = lost
-overdriven-judged part.Data = lost
-overdriven-judged part.Check = broke
-overdriven-judged part.EndOfData = broke
-overdriven-judged part.Acknowledge = broke
-overdriven-judged part.EndOfFrame = broke
-overdriven-judged part.After = broke
-
-violated-judged : (p : Part) → Judged (violated p)
-unfolding violated
-violated-judged part.Start = broke
-violated-judged part.Identifier = broke
-violated-judged part.Command = broke
-violated-judged part.Data = broke
-violated-judged part.Check = broke
-violated-judged part.EndOfData = broke
-violated-judged part.Acknowledge = broke
-violated-judged part.EndOfFrame = broke
-violated-judged part.After = broke
-
-lost-judged : (h : Half) (p : Part) → Judged (recessiveLost h p)
-unfolding recessiveLost
-lost-judged Plain p = overdriven-judged p
-lost-judged First p = overdriven-judged p
-lost-judged Second p = violated-judged p
-
-slot-judged : (x : Coded) (k v : ℕ) → Judged (judgeSlot x k v)
-unfolding judgeSlot difference
-slot-judged x k v = go (eqb v (due x k)) (ltb (k + 1) (size (x .n))) (eqb (levelAt x k) 1)
-  where
-    go : (a b d : Bool) → Judged (pick a (pick b Goes Done) (pick d (recessiveLost (halfOf (x .n) k) (partOf (x .n) k)) (violated (partOf (x .n) k))))
-    go true true d = went
-    go true false d = done
-    go false b true = lost-judged (halfOf (x .n) k) (partOf (x .n) k)
-    go false b false = violated-judged (partOf (x .n) k)
 
 pub attempt-judged : (e : Effort) (v : ℕ) → drivesFrame (e .progress) ≡ true → Judged (judge e v)
 unfolding judge

@@ -53,7 +53,7 @@ in-attempt : (t : Tally) (stage : Stage) (k start : ℕ) (levels : List ℕ) (v 
     ≡ ltb (judgedAs (verdict (t .frame) k (levelAt (coded (t .frame)) k) v) t start levels .setting) (judgedAs (verdict (t .frame) k (levelAt (coded (t .frame)) k) v) t start levels .errors)
 in-attempt t stage k start levels v b e g h =
     ap (λ (w : Verdict). isExhausted (endingOf w (serviceJudged w (made t stage k)))) (judge-driving t stage k v b)
-    ∙ exhausted-judged (slot-judged (t .frame) k v) t stage k start levels e g h
+    ∙ exhausted-judged (slot-judged (coded (t .frame)) k v) t stage k start levels e g h
     ∙ ap (λ (x : tally.Verdict). ltb (judgedAs x t start levels .setting) (judgedAs x t start levels .errors)) (kind-same (t .frame) k v)
 
 abbrev exhaustedAfter : Service → ℕ → Bool
