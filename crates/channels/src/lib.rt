@@ -38,13 +38,6 @@ pub fn remote(low: u8) -> bool
     low % 2 == 1
 }
 
-// The twelve bits of a tag, a mask or an identifier.
-pub fn twelve(high: u8, low: u8) -> u16
-    ensures { λ r. ⌜ r ≡ rule.twelve high low ⌝ }
-{
-    high as u16 * 16 + low as u16 / 16
-}
-
 // ---- a channel's bytes
 
 // The address of channel c.
@@ -84,20 +77,6 @@ pub fn cher(status: u8) -> bool
     status / 4 % 2 == 1
 }
 
-// CHTx in +3.
-pub fn chtx(status: u8) -> bool
-    ensures { λ r. ⌜ r ≡ rule.chtx status ⌝ }
-{
-    status / 2 % 2 == 1
-}
-
-// CHRx in +3.
-pub fn chrx(status: u8) -> bool
-    ensures { λ r. ⌜ r ≡ rule.chrx status ⌝ }
-{
-    status % 2 == 1
-}
-
 // The byte +3 with CHER set.
 pub fn with_cher(status: u8) -> u8
     ensures { λ r. ⌜ r ≡ rule.withCher status ⌝ }
@@ -117,13 +96,6 @@ pub fn with_chrx(status: u8) -> u8
     ensures { λ r. ⌜ r ≡ rule.withChrx status ⌝ }
 {
     status / 2 * 2 + 1
-}
-
-// The no-acknowledge bit DRAK in +2.
-pub fn drak(pointer: u8) -> bool
-    ensures { λ r. ⌜ r ≡ rule.drak pointer ⌝ }
-{
-    pointer / 128 == 1
 }
 
 // ---- links

@@ -7,6 +7,36 @@ use rules::Channel;
 use rules::Choice;
 use rules::Winner;
 
+// ---- the bits that a match and a choice look at
+
+// The twelve bits of a tag, a mask or an identifier.
+fn twelve(high: u8, low: u8) -> u16
+    ensures { λ r. ⌜ r ≡ rule.twelve high low ⌝ }
+{
+    high as u16 * 16 + low as u16 / 16
+}
+
+// CHTx in +3.
+fn chtx(status: u8) -> bool
+    ensures { λ r. ⌜ r ≡ rule.chtx status ⌝ }
+{
+    status / 2 % 2 == 1
+}
+
+// CHRx in +3.
+fn chrx(status: u8) -> bool
+    ensures { λ r. ⌜ r ≡ rule.chrx status ⌝ }
+{
+    status % 2 == 1
+}
+
+// The no-acknowledge bit DRAK in +2.
+fn drak(pointer: u8) -> bool
+    ensures { λ r. ⌜ r ≡ rule.drak pointer ⌝ }
+{
+    pointer / 128 == 1
+}
+
 // ---- who takes a frame
 
 // Every tag bit under a mask one equals the identifier's.
@@ -23,7 +53,7 @@ fn listens_for_data(x: Channel) -> bool
     if channels::reads(x.low) {
         return false;
     }
-    let received = channels::chrx(x.status);
+    let received = chrx(x.status);
     if received {
         return false;
     }
@@ -37,11 +67,11 @@ fn listens_for_requests(x: Channel) -> bool
     if channels::remote(x.low) {
         return false;
     }
-    let requested = channels::chrx(x.status);
+    let requested = chrx(x.status);
     if requested {
         return false;
     }
-    (channels::reads(x.low)) & (channels::chtx(x.status))
+    (channels::reads(x.low)) & (chtx(x.status))
 }
 
 // Whether the channel's status takes a frame of this command: a data frame (R/W 0, RTR 0) or a reply request (1, 1), EXT 1.
@@ -69,9 +99,9 @@ fn takes(m: &[u8; 256], c: u8, high: u8, low: u8) -> bool
 {
     let x = channels::channel_at(m, c);
     if listens(x, low) {
-        let tag = channels::twelve(x.high, x.low);
-        let mask = channels::twelve(x.over, x.under);
-        if matches(tag, mask, channels::twelve(high, low)) {
+        let tag = twelve(x.high, x.low);
+        let mask = twelve(x.over, x.under);
+        if matches(tag, mask, twelve(high, low)) {
             let b = channels::buffer_of(m, c);
             return b.legal;
         }
@@ -102,7 +132,7 @@ fn winner_of(m: &[u8; 256], c: u8) -> Winner
     Winner {
         matched: true,
         channel: c,
-        silent: channels::drak(x.pointer),
+        silent: drak(x.pointer),
         pointer: b.pointer,
         length: b.length,
     }
@@ -151,11 +181,11 @@ fn asks_to_send(x: Channel) -> bool
     if channels::remote(x.low) {
         return false;
     }
-    if channels::chtx(x.status) {
+    if chtx(x.status) {
         return false;
     }
     if channels::reads(x.low) {
-        return channels::chrx(x.status);
+        return chrx(x.status);
     }
     true
 }

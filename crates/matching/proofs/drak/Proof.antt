@@ -1,7 +1,7 @@
 use mathlib.Core.Path.{refl}
 use Rattle.rules.specs.Channels.{drak}
-use Rattle.channels.proofs.drak.Statement.{statement}
-use Rattle.channels.proofs.drak.Tie as tie
+use Rattle.matching.proofs.drak.Statement.{statement}
+use Rattle.matching.proofs.drak.Tie as tie
 
 pub drak-spec : {M : Type 1} → statement M
 unfolding drak

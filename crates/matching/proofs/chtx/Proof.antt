@@ -1,7 +1,7 @@
 use mathlib.Core.Path.{refl}
 use Rattle.rules.specs.Channels.{chtx}
-use Rattle.channels.proofs.chtx.Statement.{statement}
-use Rattle.channels.proofs.chtx.Tie as tie
+use Rattle.matching.proofs.chtx.Statement.{statement}
+use Rattle.matching.proofs.chtx.Tie as tie
 
 pub chtx-spec : {M : Type 1} → statement M
 unfolding chtx

@@ -1,7 +1,7 @@
 use mathlib.Core.Path.{refl}
 use Rattle.rules.specs.Channels.{chrx}
-use Rattle.channels.proofs.chrx.Statement.{statement}
-use Rattle.channels.proofs.chrx.Tie as tie
+use Rattle.matching.proofs.chrx.Statement.{statement}
+use Rattle.matching.proofs.chrx.Tie as tie
 
 pub chrx-spec : {M : Type 1} → statement M
 unfolding chrx

@@ -1,8 +1,8 @@
 use borrow.Author.Needs.{needs}
 use mathlib.Core.Path.{refl}
 use Rattle.rules.specs.Channels.{twelve}
-use Rattle.channels.proofs.twelve.Statement.{statement}
-use Rattle.channels.proofs.twelve.Tie as tie
+use Rattle.matching.proofs.twelve.Statement.{statement}
+use Rattle.matching.proofs.twelve.Tie as tie
 
 pub twelve-spec : {M : Type 1} → statement M
 unfolding twelve
