@@ -1,4 +1,4 @@
-// Channels: the bits of byte 1, a channel's bytes and marks, links (01, Memory map; 000, Channel Registers).
+// Channels: the bits of byte 1, a channel's bytes, links (01, Memory map; 000, Channel Registers).
 // A channel number is taken modulo 14. `low` is byte 1 of a frame or of a channel: identifier or tag bits 3 to 0, EXT, RAK, R/W, RTR.
 ghost use mathlib.Core.Path.{_≡_};
 ghost use Prim.Native.Nat.{_≤_};
@@ -75,27 +75,6 @@ pub fn cher(status: u8) -> bool
     ensures { λ r. ⌜ r ≡ rule.cher status ⌝ }
 {
     status / 4 % 2 == 1
-}
-
-// The byte +3 with CHER set.
-pub fn with_cher(status: u8) -> u8
-    ensures { λ r. ⌜ r ≡ rule.withCher status ⌝ }
-{
-    status / 8 * 8 + 4 + status % 4
-}
-
-// The byte +3 with CHTx set.
-pub fn with_chtx(status: u8) -> u8
-    ensures { λ r. ⌜ r ≡ rule.withChtx status ⌝ }
-{
-    status / 4 * 4 + 2 + status % 2
-}
-
-// The byte +3 with CHRx set.
-pub fn with_chrx(status: u8) -> u8
-    ensures { λ r. ⌜ r ≡ rule.withChrx status ⌝ }
-{
-    status / 2 * 2 + 1
 }
 
 // ---- links

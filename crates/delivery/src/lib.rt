@@ -50,8 +50,8 @@ fn store(m: &mut [u8; 256], r: Reception)
     let w = r.winner;
     let b = r.bytes;
     memory::store(m, w.pointer, b, reception::data_count(r.nibbles));
-    memory::retag(m, w.channel, b[0], b[1]);
-    memory::mark_chrx(m, w.channel);
+    marks::retag(m, w.channel, b[0], b[1]);
+    marks::mark_chrx(m, w.channel);
 }
 
 // What a delivery writes to the map: the frame, or CHER.
@@ -62,8 +62,8 @@ pub fn deliver(m: &mut [u8; 256], d: Delivery, r: Reception)
     match d {
         Delivery::Nothing => {}
         Delivery::Stored => store(m, r),
-        Delivery::Overflowed => memory::mark_cher(m, w.channel),
-        Delivery::Spoiled => memory::mark_cher(m, w.channel),
+        Delivery::Overflowed => marks::mark_cher(m, w.channel),
+        Delivery::Spoiled => marks::mark_cher(m, w.channel),
     }
 }
 

@@ -86,12 +86,12 @@ pub fn end_memory(m: &mut [u8; 256], x: Ending, channel: u8)
 {
     match x {
         Ending::Going => {}
-        Ending::Sent => memory::mark_chtx(m, channel),
+        Ending::Sent => marks::mark_chtx(m, channel),
         Ending::Exhausted => {
-            memory::mark_cher(m, channel);
-            memory::mark_chtx(m, channel);
+            marks::mark_cher(m, channel);
+            marks::mark_chtx(m, channel);
         }
-        Ending::Aborted => memory::mark_chtx(m, channel),
+        Ending::Aborted => marks::mark_chtx(m, channel),
         Ending::Rearbitrated => {}
     }
 }

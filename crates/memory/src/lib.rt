@@ -1,4 +1,4 @@
-// The mailbox, the frame that a channel sends, and what the controller writes to a channel (01, Receiving, Sending; 000, Mailbox).
+// The mailbox, and the frame that a channel sends from it (01, Receiving, Sending; 000, Mailbox).
 // The map is lent and changed in place. A channel number is taken modulo 14.
 ghost use mathlib.Core.Path.{_≡_};
 ghost use mathlib.Core.List.{_∷_};
@@ -126,40 +126,4 @@ pub fn coded_of(m: &[u8; 256], c: u8) -> Coded
         n: n,
         bytes: sealed(bytes, n),
     }
-}
-
-// ---- what the controller writes to a channel
-
-// The tag of channel c rewritten with the identifier received; the command bits stay.
-pub fn retag(m: &mut [u8; 256], c: u8, high: u8, low: u8)
-    ensures { λ _. ⌜ now (m .exit) ≡ rule.retagged (now (m .entry)) c high low ⌝ }
-{
-    let at = channels::base(c);
-    let kept = m[at + 1] % 16;
-    m[at] = high;
-    m[at + 1] = low / 16 * 16 + kept;
-}
-
-// CHER set in channel c.
-pub fn mark_cher(m: &mut [u8; 256], c: u8)
-    ensures { λ _. ⌜ now (m .exit) ≡ rule.markedCher (now (m .entry)) c ⌝ }
-{
-    let at = channels::base(c) + 3;
-    m[at] = channels::with_cher(m[at]);
-}
-
-// CHTx set in channel c.
-pub fn mark_chtx(m: &mut [u8; 256], c: u8)
-    ensures { λ _. ⌜ now (m .exit) ≡ rule.markedChtx (now (m .entry)) c ⌝ }
-{
-    let at = channels::base(c) + 3;
-    m[at] = channels::with_chtx(m[at]);
-}
-
-// CHRx set in channel c.
-pub fn mark_chrx(m: &mut [u8; 256], c: u8)
-    ensures { λ _. ⌜ now (m .exit) ≡ rule.markedChrx (now (m .entry)) c ⌝ }
-{
-    let at = channels::base(c) + 3;
-    m[at] = channels::with_chrx(m[at]);
 }

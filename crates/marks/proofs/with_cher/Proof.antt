@@ -1,8 +1,8 @@
 use borrow.Author.Needs.{needs}
 use mathlib.Core.Path.{refl}
 use Rattle.rules.specs.Channels.{withCher}
-use Rattle.channels.proofs.with_cher.Statement.{statement}
-use Rattle.channels.proofs.with_cher.Tie as tie
+use Rattle.marks.proofs.with_cher.Statement.{statement}
+use Rattle.marks.proofs.with_cher.Tie as tie
 
 pub with-cher-spec : {M : Type 1} → statement M
 unfolding withCher

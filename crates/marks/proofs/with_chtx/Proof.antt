@@ -1,8 +1,8 @@
 use borrow.Author.Needs.{needs}
 use mathlib.Core.Path.{refl}
 use Rattle.rules.specs.Channels.{withChtx}
-use Rattle.channels.proofs.with_chtx.Statement.{statement}
-use Rattle.channels.proofs.with_chtx.Tie as tie
+use Rattle.marks.proofs.with_chtx.Statement.{statement}
+use Rattle.marks.proofs.with_chtx.Tie as tie
 
 pub with-chtx-spec : {M : Type 1} → statement M
 unfolding withChtx

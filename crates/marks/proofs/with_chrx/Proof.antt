@@ -1,8 +1,8 @@
 use borrow.Author.Needs.{needs}
 use mathlib.Core.Path.{refl}
 use Rattle.rules.specs.Channels.{withChrx}
-use Rattle.channels.proofs.with_chrx.Statement.{statement}
-use Rattle.channels.proofs.with_chrx.Tie as tie
+use Rattle.marks.proofs.with_chrx.Statement.{statement}
+use Rattle.marks.proofs.with_chrx.Tie as tie
 
 pub with-chrx-spec : {M : Type 1} → statement M
 unfolding withChrx

@@ -2,8 +2,8 @@ use borrow.Author.Needs.{needs}
 use mathlib.Core.Path.{refl}
 use borrow.Author.Tests.{lt-ltb, le-ltb, le-leb, lt-leb, eq-eqb, ne-eqb}
 use Rattle.rules.specs.Mailbox.{retagged}
-use Rattle.memory.proofs.retag.Statement.{statement}
-use Rattle.memory.proofs.retag.Tie as tie
+use Rattle.marks.proofs.retag.Statement.{statement}
+use Rattle.marks.proofs.retag.Tie as tie
 
 pub retag-spec : {M : Type 1} → statement M
 unfolding retagged
