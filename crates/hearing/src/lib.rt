@@ -12,30 +12,6 @@ use rules::Phase;
 use rules::Reception;
 use rules::Winner;
 
-// The line after a sample; the slot of a fault does not count among the twelve.
-pub fn line_after(h: Hearing, l: Line, v: u8) -> Line
-    ensures { λ r. ⌜ r ≡ rule.lineAfter h l v ⌝ }
-{
-    match h {
-        Hearing::Silent => free_line::counted(l, v),
-        Hearing::Follows => l,
-        Hearing::Fault(_) => free_line::unsettled(),
-        Hearing::Good => free_line::after_good(),
-    }
-}
-
-// The frame after a sample: a fault and a good end leave none.
-pub fn reception_after(h: Hearing, r: Reception, v: u8) -> Reception
-    ensures { λ t. ⌜ t ≡ rule.receptionAfter h r v ⌝ }
-{
-    match h {
-        Hearing::Silent => r,
-        Hearing::Follows => reception::followed(r, v),
-        Hearing::Fault(_) => reception::quiet(),
-        Hearing::Good => reception::quiet(),
-    }
-}
-
 // ---- identifier to end of data
 
 // Seven nibbles, and two for each of `longest` data bytes.

@@ -3,6 +3,7 @@ ghost use mathlib.Core.Path.{_≡_};
 ghost use mathlib.Core.Bool.{true, false};
 ghost use Rattle.rules.specs.Slots as rule;
 ghost use Rattle.rules.specs.Attempt as sending;
+ghost use Rattle.rules.specs.Hearing as hearing_rule;
 ghost use Rattle.rules.specs.Service as service_rule;
 ghost use Rattle.rules.specs.Delivery as delivery_rule;
 ghost use Rattle.rules.specs.declared.Verdict.the-variants as verdict;
@@ -12,6 +13,7 @@ use rules::Delivery;
 use rules::Effort;
 use rules::Ending;
 use rules::Hearing;
+use rules::Line;
 use rules::Reception;
 use rules::Report;
 use rules::Service;
@@ -49,11 +51,35 @@ fn delivers(w: Verdict, h: Hearing, r: Reception) -> Delivery
 
 // ---- its effects
 
+// The line after a sample; the slot of a fault does not count among the twelve.
+fn line_after(h: Hearing, l: Line, v: u8) -> Line
+    ensures { λ r. ⌜ r ≡ hearing_rule.lineAfter h l v ⌝ }
+{
+    match h {
+        Hearing::Silent => free_line::counted(l, v),
+        Hearing::Follows => l,
+        Hearing::Fault(_) => free_line::unsettled(),
+        Hearing::Good => free_line::after_good(),
+    }
+}
+
+// The frame after a sample: a fault and a good end leave none.
+fn reception_after(h: Hearing, r: Reception, v: u8) -> Reception
+    ensures { λ t. ⌜ t ≡ hearing_rule.receptionAfter h r v ⌝ }
+{
+    match h {
+        Hearing::Silent => r,
+        Hearing::Follows => reception::followed(r, v),
+        Hearing::Fault(_) => reception::quiet(),
+        Hearing::Good => reception::quiet(),
+    }
+}
+
 // The winner is taken in the last command slot, whoever sends.
 fn reception_judged(m: &[u8; 256], h: Hearing, r: Reception, v: u8) -> Reception
     ensures { λ t. ⌜ t ≡ rule.receptionJudged (now (m .entry)) h r v ⌝ }
 {
-    let t = hearing::reception_after(h, r, v);
+    let t = reception_after(h, r, v);
     if reception::command_ended(t) {
         return reception::named(t, m);
     }
@@ -92,7 +118,7 @@ fn judged(m: &mut [u8; 256], k: Core, w: Verdict, e: Effort, h: Hearing, v: u8) 
     judge_memory(m, k, w, h, x);
     let mut t = k;
     t.report = report_after(k, w, h, s);
-    t.line = hearing::line_after(h, k.line, v);
+    t.line = line_after(h, k.line, v);
     t.reception = reception_judged(m, h, k.reception, v);
     t.service = ending::settled(x, s);
     t
@@ -137,7 +163,7 @@ fn passed(m: &[u8; 256], k: Core, h: Hearing, v: u8) -> Core
     ensures { λ r. ⌜ r ≡ ordinary.passed (now (m .entry)) k h v ⌝ }
 {
     let mut t = k;
-    t.line = hearing::line_after(h, k.line, v);
+    t.line = line_after(h, k.line, v);
     t.reception = reception_judged(m, h, k.reception, v);
     t
 }

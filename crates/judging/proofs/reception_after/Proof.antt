@@ -1,7 +1,7 @@
 use borrow.Author.Needs.{needs}
 use Rattle.rules.specs.Hearing.{receptionAfter}
-use Rattle.hearing.proofs.reception_after.Statement.{statement}
-use Rattle.hearing.proofs.reception_after.Tie as tie
+use Rattle.judging.proofs.reception_after.Statement.{statement}
+use Rattle.judging.proofs.reception_after.Tie as tie
 
 pub reception-after-spec : {M : Type 1} → statement M
 unfolding receptionAfter

@@ -1,7 +1,7 @@
 use borrow.Author.Needs.{needs}
 use Rattle.rules.specs.Hearing.{lineAfter}
-use Rattle.hearing.proofs.line_after.Statement.{statement}
-use Rattle.hearing.proofs.line_after.Tie as tie
+use Rattle.judging.proofs.line_after.Statement.{statement}
+use Rattle.judging.proofs.line_after.Tie as tie
 
 pub line-after-spec : {M : Type 1} → statement M
 unfolding lineAfter
