@@ -22,7 +22,7 @@ fn line_status_of(k: Core) -> u8
         state::is_asleep(k.activity),
         state::is_idle(k.activity),
         state::serving(k.service),
-        reception::under_way(r.place),
+        place::under_way(r.place),
     )
 }
 

@@ -30,7 +30,7 @@ fn heard(k: Core, v: u8) -> Hearing
     ensures { λ r. ⌜ r ≡ rule.heard k verdict.Unjudged v ⌝ }
 {
     let r = k.reception;
-    if reception::under_way(r.place) {
+    if place::under_way(r.place) {
         return hearing::hear_frame(r, LONGEST, v);
     }
     hearing::hear_quiet(k.line, v)
@@ -80,7 +80,7 @@ fn reception_judged(m: &[u8; 256], h: Hearing, r: Reception, v: u8) -> Reception
     ensures { λ t. ⌜ t ≡ rule.receptionJudged (now (m .entry)) h r v ⌝ }
 {
     let t = reception_after(h, r, v);
-    if reception::command_ended(t) {
+    if place::command_ended(t) {
         return reception::named(t, m);
     }
     t

@@ -21,7 +21,7 @@ pub fn role_of(p: Progress, here: Place) -> Role
     if stage::drives_frame(p) {
         return Role::Sender;
     }
-    if reception::under_way(here) {
+    if place::under_way(here) {
         return Role::Receiver;
     }
     Role::Nobody
@@ -79,10 +79,10 @@ pub fn started(s: Service, autonomous: bool, l: Line, r: Reception) -> Service
 {
     let e = s.effort;
     if stage::waits(e.progress) {
-        if reception::start_ended(r) {
+        if place::start_ended(r) {
             return opened(s, 10);
         }
-        if reception::under_way(r.place) {
+        if place::under_way(r.place) {
             return s;
         }
         if (autonomous) & (free_line::free(l)) {

@@ -24,7 +24,7 @@ fn chooses(k: Core) -> bool
         if state::serving(k.service) {
             return false;
         }
-        if reception::under_way(r.place) {
+        if place::under_way(r.place) {
             return false;
         }
         return true;
@@ -67,8 +67,8 @@ fn begins(k: Core) -> bool
     if a.waiting {
         return true;
     }
-    if reception::under_way(r.place) {
-        return reception::start_ended(r);
+    if place::under_way(r.place) {
+        return place::start_ended(r);
     }
     true
 }

@@ -1,7 +1,7 @@
 use borrow.Author.Needs.{needs}
 use Rattle.rules.specs.Reception.{inBody, isBody}
-use Rattle.reception.proofs.in_body.Statement.{statement}
-use Rattle.reception.proofs.in_body.Tie as tie
+use Rattle.place.proofs.in_body.Statement.{statement}
+use Rattle.place.proofs.in_body.Tie as tie
 
 pub in-body-spec : {M : Type 1} → statement M
 unfolding inBody isBody

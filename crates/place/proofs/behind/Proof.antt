@@ -1,7 +1,7 @@
 use borrow.Author.Tests.{eq-eqb, ne-eqb}
 use Rattle.rules.specs.Reception.{behind}
-use Rattle.reception.proofs.behind.Statement.{statement}
-use Rattle.reception.proofs.behind.Tie as tie
+use Rattle.place.proofs.behind.Statement.{statement}
+use Rattle.place.proofs.behind.Tie as tie
 
 pub behind-spec : {M : Type 1} → statement M
 unfolding behind

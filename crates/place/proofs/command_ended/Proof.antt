@@ -1,6 +1,6 @@
 use Rattle.rules.specs.Reception.{commandEnded}
-use Rattle.reception.proofs.command_ended.Statement.{statement}
-use Rattle.reception.proofs.command_ended.Tie as tie
+use Rattle.place.proofs.command_ended.Statement.{statement}
+use Rattle.place.proofs.command_ended.Tie as tie
 
 pub command-ended-spec : {M : Type 1} → statement M
 unfolding commandEnded

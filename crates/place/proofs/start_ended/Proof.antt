@@ -1,6 +1,6 @@
 use Rattle.rules.specs.Reception.{startEnded}
-use Rattle.reception.proofs.start_ended.Statement.{statement}
-use Rattle.reception.proofs.start_ended.Tie as tie
+use Rattle.place.proofs.start_ended.Statement.{statement}
+use Rattle.place.proofs.start_ended.Tie as tie
 
 pub start-ended-spec : {M : Type 1} → statement M
 unfolding startEnded

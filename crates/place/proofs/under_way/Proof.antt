@@ -1,7 +1,7 @@
 use borrow.Author.Needs.{needs}
 use Rattle.rules.specs.Reception.{underWay, isUnderWay}
-use Rattle.reception.proofs.under_way.Statement.{statement}
-use Rattle.reception.proofs.under_way.Tie as tie
+use Rattle.place.proofs.under_way.Statement.{statement}
+use Rattle.place.proofs.under_way.Tie as tie
 
 pub under-way-spec : {M : Type 1} → statement M
 unfolding underWay isUnderWay
