@@ -105,7 +105,7 @@ fn stopped_core(k: Core, s: Service) -> Core
 {
     let x = ending::stopped(s);
     let mut t = k;
-    t.report = ending::report_ended(x, k.report, s);
+    t.report = reports::report_ended(x, k.report, s);
     t.service = ending::settled(x, s);
     state::idle_due(t)
 }

@@ -91,10 +91,10 @@ fn report_after(k: Core, w: Verdict, h: Hearing, s: Service) -> Report
     ensures { λ r. ⌜ r ≡ service_rule.reportEnded (service_rule.endingOf w s) (service_rule.reportJudged w (delivery_rule.reportDelivered (rule.delivers w h (k .reception)) (delivery_rule.reportHeard h (k .report)) (k .reception)) s) s ⌝ }
 {
     let d = delivers(w, h, k.reception);
-    let a = delivery::report_heard(h, k.report);
-    let b = delivery::report_delivered(d, a, k.reception);
-    let c = ending::report_judged(w, b, s);
-    ending::report_ended(ending::ending_of(w, s), c, s)
+    let a = reports::report_heard(h, k.report);
+    let b = reports::report_delivered(d, a, k.reception);
+    let c = reports::report_judged(w, b, s);
+    reports::report_ended(ending::ending_of(w, s), c, s)
 }
 
 // The store or CHER first, then the marks of a service that ends.

@@ -40,7 +40,7 @@ fn choice_made(m: &[u8; 256], k: Core) -> Core
         let s = service::choose(m, LONGEST);
         if state::serving(s) {
             let mut t = k;
-            t.report = ending::report_sending(k.report, s);
+            t.report = reports::report_sending(k.report, s);
             t.service = s;
             return t;
         }

@@ -1,0 +1,11 @@
+use Rattle.rules.specs.Delivery.{withFlags, withMessage}
+use Rattle.rules.specs.Service.{retriesOf}
+use Rattle.reports.proofs.report_message.Statement.{statement}
+use Rattle.reports.proofs.report_message.Tie as tie
+
+pub report-message-spec : {M : Type 1} → statement M
+unfolding withFlags withMessage retriesOf
+report-message-spec =
+    tie.close (tie.spec
+    (λ c κs. tt)
+    (λ c. simp (← (c .retries-of .ensures))))

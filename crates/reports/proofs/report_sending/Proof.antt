@@ -1,0 +1,11 @@
+use Rattle.rules.specs.Service.{reportSending}
+use Rattle.rules.specs.Delivery.{withSending}
+use Rattle.reports.proofs.report_sending.Statement.{statement}
+use Rattle.reports.proofs.report_sending.Tie as tie
+
+pub report-sending-spec : {M : Type 1} → statement M
+unfolding reportSending withSending
+report-sending-spec =
+    tie.close (tie.spec
+    (λ c κs. tt)
+    (λ c. simp (← (c .retries-of .ensures))))
