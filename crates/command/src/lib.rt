@@ -15,7 +15,8 @@ fn resets(address: usize, v: u8) -> bool
     ensures { λ r. ⌜ r ≡ rule.resets address v ⌝ }
 {
     if address == Map::COMMAND {
-        return Map::asks_reset(v);
+        let asked = Map::asked(v);
+        return asked.reset;
     }
     false
 }
@@ -25,7 +26,8 @@ fn sleeps(address: usize, v: u8) -> bool
     ensures { λ r. ⌜ r ≡ rule.sleeps address v ⌝ }
 {
     if address == Map::COMMAND {
-        return Map::asks_sleep(v);
+        let asked = Map::asked(v);
+        return asked.sleep;
     }
     false
 }
@@ -34,10 +36,11 @@ fn sleeps(address: usize, v: u8) -> bool
 fn mode_commanded(k: Core, v: u8) -> Core
     ensures { λ r. ⌜ r ≡ rule.modeCommanded k v ⌝ }
 {
-    if Map::asks_idle(v) {
+    let asked = Map::asked(v);
+    if asked.idle {
         return state::idle_asked(k);
     }
-    if Map::asks_activation(v) {
+    if asked.activation {
         return state::activated(k);
     }
     k
@@ -46,7 +49,8 @@ fn mode_commanded(k: Core, v: u8) -> Core
 fn rear_commanded(s: Service, v: u8) -> Service
     ensures { λ r. ⌜ r ≡ rule.rearCommanded s v ⌝ }
 {
-    if Map::asks_rearbitration(v) {
+    let asked = Map::asked(v);
+    if asked.rearbitration {
         return service::rear_asked(s);
     }
     s
