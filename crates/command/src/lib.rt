@@ -5,7 +5,9 @@ ghost use Rattle.rules.specs.Mailbox as mailbox;
 ghost use Rattle.rules.specs.State as core;
 ghost use Rattle.rules.specs.Answers as answers;
 use registers::Map;
+use rules::Activity;
 use rules::Core;
+use rules::Mode;
 use rules::Service;
 
 // ---- commands: GRES, SLEEP, IDLE, ACTI, and REAR
@@ -32,16 +34,64 @@ fn sleeps(address: usize, v: u8) -> bool
     false
 }
 
+// SLEEP acts at once: service and frame go, registers and flags stay.
+fn slept(k: Core) -> Core
+    ensures { λ r. ⌜ r ≡ core.slept k ⌝ }
+{
+    let mut t = k;
+    let activity = Activity {
+        mode: Mode::Asleep,
+        waiting: false,
+    };
+    t.activity = activity;
+    t.reception = reception::quiet();
+    t.service = ending::resting();
+    t
+}
+
+// IDLE waits for the end of the service; whether it is due is asked afterwards.
+fn idle_asked(k: Core) -> Core
+    ensures { λ r. ⌜ r ≡ core.idleAsked k ⌝ }
+{
+    if state::is_active(k.activity) {
+        let mut t = k;
+        let activity = Activity {
+            mode: Mode::Active,
+            waiting: true,
+        };
+        t.activity = activity;
+        return t;
+    }
+    k
+}
+
+// ACTI in active mode only cancels a waiting idle; else twelve recessive slots are wanted.
+fn activated(k: Core) -> Core
+    ensures { λ r. ⌜ r ≡ core.activated k ⌝ }
+{
+    let mut t = k;
+    let activity = Activity {
+        mode: Mode::Active,
+        waiting: false,
+    };
+    t.activity = activity;
+    if state::is_active(k.activity) {
+        return t;
+    }
+    t.line = free_line::unsettled();
+    t
+}
+
 // Only the first one set acts.
 fn mode_commanded(k: Core, v: u8) -> Core
     ensures { λ r. ⌜ r ≡ rule.modeCommanded k v ⌝ }
 {
     let asked = Map::asked(v);
     if asked.idle {
-        return state::idle_asked(k);
+        return idle_asked(k);
     }
     if asked.activation {
-        return state::activated(k);
+        return activated(k);
     }
     k
 }
@@ -138,7 +188,7 @@ pub fn written(m: &mut [u8; 256], k: Core, address: usize, v: u8) -> Core
         return reset(m);
     }
     if sleeps(address, v) {
-        return state::slept(k);
+        return slept(k);
     }
     byte_written(m, k, address, v)
 }
