@@ -2,6 +2,7 @@
 ghost use mathlib.Core.Path.{_≡_};
 ghost use Rattle.rules.specs.Host as rule;
 ghost use Rattle.rules.specs.Mailbox as mailbox;
+ghost use Rattle.rules.specs.Service as service;
 ghost use Rattle.rules.specs.State as core;
 ghost use Rattle.rules.specs.Answers as answers;
 use registers::Map;
@@ -96,12 +97,22 @@ fn mode_commanded(k: Core, v: u8) -> Core
     k
 }
 
+// REAR without a service is not remembered.
+fn rear_asked(s: Service) -> Service
+    ensures { λ r. ⌜ r ≡ service.rearAsked s ⌝ }
+{
+    let e = s.effort;
+    let mut t = s;
+    t.rear = stage::in_service(e.progress);
+    t
+}
+
 fn rear_commanded(s: Service, v: u8) -> Service
     ensures { λ r. ⌜ r ≡ rule.rearCommanded s v ⌝ }
 {
     let asked = Map::asked(v);
     if asked.rearbitration {
-        return service::rear_asked(s);
+        return rear_asked(s);
     }
     s
 }
@@ -140,6 +151,29 @@ fn core_written(k: Core, address: usize, v: u8) -> Core
     k
 }
 
+// An abort waits for the end of the attempt.
+fn abort_asked(s: Service) -> Service
+    ensures { λ r. ⌜ r ≡ service.abortAsked s ⌝ }
+{
+    let mut t = s;
+    t.abort = true;
+    t
+}
+
+// Whether a host's write sets CHER of the channel in service.
+fn aborts(s: Service, address: usize, value: u8) -> bool
+    ensures { λ r. ⌜ r ≡ service.aborts s address value ⌝ }
+{
+    let e = s.effort;
+    if stage::in_service(e.progress) {
+        if address == channels::base(s.channel) + 3 {
+            return channels::cher(value);
+        }
+        return false;
+    }
+    false
+}
+
 // What a write asks of the service: REAR, or an abort.
 fn service_asked(s: Service, address: usize, v: u8) -> Service
     ensures { λ r. ⌜ r ≡ rule.serviceAsked s address v ⌝ }
@@ -147,8 +181,8 @@ fn service_asked(s: Service, address: usize, v: u8) -> Service
     if address == Map::COMMAND {
         return rear_commanded(s, v);
     }
-    if service::aborts(s, address, v) {
-        return service::abort_asked(s);
+    if aborts(s, address, v) {
+        return abort_asked(s);
     }
     s
 }

@@ -1,6 +1,6 @@
 use Rattle.rules.specs.Service.{rearAsked}
-use Rattle.service.proofs.rear_asked.Statement.{statement}
-use Rattle.service.proofs.rear_asked.Tie as tie
+use Rattle.command.proofs.rear_asked.Statement.{statement}
+use Rattle.command.proofs.rear_asked.Tie as tie
 
 pub rear-asked-spec : {M : Type 1} → statement M
 unfolding rearAsked

@@ -1,8 +1,8 @@
 use borrow.Author.Needs.{needs}
 use borrow.Author.Tests.{eq-eqb, ne-eqb}
 use Rattle.rules.specs.Service.{aborts}
-use Rattle.service.proofs.aborts.Statement.{statement}
-use Rattle.service.proofs.aborts.Tie as tie
+use Rattle.command.proofs.aborts.Statement.{statement}
+use Rattle.command.proofs.aborts.Tie as tie
 
 pub aborts-spec : {M : Type 1} → statement M
 unfolding aborts

@@ -1,7 +1,7 @@
 use mathlib.Core.Path.{refl}
 use Rattle.rules.specs.Service.{abortAsked}
-use Rattle.service.proofs.abort_asked.Statement.{statement}
-use Rattle.service.proofs.abort_asked.Tie as tie
+use Rattle.command.proofs.abort_asked.Statement.{statement}
+use Rattle.command.proofs.abort_asked.Tie as tie
 
 pub abort-asked-spec : {M : Type 1} → statement M
 unfolding abortAsked
