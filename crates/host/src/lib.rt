@@ -210,11 +210,3 @@ pub fn host_read_on(m: &[u8; 256], k: Core, address: u16) -> CoreOutcome
         next: k,
     }
 }
-
-// The interrupt line.
-pub fn interrupt_on(m: &[u8; 256], k: Core) -> bool
-    ensures { λ r. ⌜ r ≡ rule.interruptLine (answers.controller (now (m .entry)) k) ⌝ }
-{
-    let x = k.report;
-    status::asserted(x.flags, m[Map::INTERRUPT_ENABLE])
-}
