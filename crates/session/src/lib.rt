@@ -84,7 +84,7 @@ pub fn code_of(f: Fault) -> u8
 }
 
 // The number at a place. A place past the end is the end.
-pub fn number_at(s: &[u8], at: usize) -> Number
+fn number_at(s: &[u8], at: usize) -> Number
     ensures { λ r. ⌜ r ≡ rule.numberAt (now (s .entry)) at ⌝ }
 {
     if s.len() <= at {
@@ -133,7 +133,7 @@ fn count_at(s: &[u8], at: usize) -> Header
 }
 
 // The event at a place.
-pub fn event_at(s: &[u8], at: usize) -> Item
+fn event_at(s: &[u8], at: usize) -> Item
     ensures { λ r. ⌜ r ≡ rule.eventAt (now (s .entry)) at ⌝ }
 {
     match number_at(s, at) {
