@@ -2,10 +2,13 @@
 ghost use mathlib.Core.Path.{_≡_};
 ghost use Rattle.rules.specs.Host as rule;
 ghost use Rattle.rules.specs.Mailbox as mailbox;
+ghost use Rattle.rules.specs.Service as service;
 ghost use Rattle.rules.specs.State as core;
 ghost use Rattle.rules.specs.Answers as answers;
 use registers::Map;
+use rules::Activity;
 use rules::Core;
+use rules::Mode;
 use rules::Service;
 
 // ---- commands: GRES, SLEEP, IDLE, ACTI, and REAR
@@ -15,7 +18,8 @@ fn resets(address: usize, v: u8) -> bool
     ensures { λ r. ⌜ r ≡ rule.resets address v ⌝ }
 {
     if address == Map::COMMAND {
-        return Map::asks_reset(v);
+        let asked = Map::asked(v);
+        return asked.reset;
     }
     false
 }
@@ -25,29 +29,90 @@ fn sleeps(address: usize, v: u8) -> bool
     ensures { λ r. ⌜ r ≡ rule.sleeps address v ⌝ }
 {
     if address == Map::COMMAND {
-        return Map::asks_sleep(v);
+        let asked = Map::asked(v);
+        return asked.sleep;
     }
     false
+}
+
+// SLEEP acts at once: service and frame go, registers and flags stay.
+fn slept(k: Core) -> Core
+    ensures { λ r. ⌜ r ≡ core.slept k ⌝ }
+{
+    let mut t = k;
+    let activity = Activity {
+        mode: Mode::Asleep,
+        waiting: false,
+    };
+    t.activity = activity;
+    t.reception = reception::quiet();
+    t.service = ending::resting();
+    t
+}
+
+// IDLE waits for the end of the service; whether it is due is asked afterwards.
+fn idle_asked(k: Core) -> Core
+    ensures { λ r. ⌜ r ≡ core.idleAsked k ⌝ }
+{
+    if state::is_active(k.activity) {
+        let mut t = k;
+        let activity = Activity {
+            mode: Mode::Active,
+            waiting: true,
+        };
+        t.activity = activity;
+        return t;
+    }
+    k
+}
+
+// ACTI in active mode only cancels a waiting idle; else twelve recessive slots are wanted.
+fn activated(k: Core) -> Core
+    ensures { λ r. ⌜ r ≡ core.activated k ⌝ }
+{
+    let mut t = k;
+    let activity = Activity {
+        mode: Mode::Active,
+        waiting: false,
+    };
+    t.activity = activity;
+    if state::is_active(k.activity) {
+        return t;
+    }
+    t.line = free_line::unsettled();
+    t
 }
 
 // Only the first one set acts.
 fn mode_commanded(k: Core, v: u8) -> Core
     ensures { λ r. ⌜ r ≡ rule.modeCommanded k v ⌝ }
 {
-    if Map::asks_idle(v) {
-        return state::idle_asked(k);
+    let asked = Map::asked(v);
+    if asked.idle {
+        return idle_asked(k);
     }
-    if Map::asks_activation(v) {
-        return state::activated(k);
+    if asked.activation {
+        return activated(k);
     }
     k
+}
+
+// REAR without a service is not remembered.
+fn rear_asked(s: Service) -> Service
+    ensures { λ r. ⌜ r ≡ service.rearAsked s ⌝ }
+{
+    let e = s.effort;
+    let mut t = s;
+    t.rear = stage::in_service(e.progress);
+    t
 }
 
 fn rear_commanded(s: Service, v: u8) -> Service
     ensures { λ r. ⌜ r ≡ rule.rearCommanded s v ⌝ }
 {
-    if Map::asks_rearbitration(v) {
-        return service::rear_asked(s);
+    let asked = Map::asked(v);
+    if asked.rearbitration {
+        return rear_asked(s);
     }
     s
 }
@@ -86,6 +151,29 @@ fn core_written(k: Core, address: usize, v: u8) -> Core
     k
 }
 
+// An abort waits for the end of the attempt.
+fn abort_asked(s: Service) -> Service
+    ensures { λ r. ⌜ r ≡ service.abortAsked s ⌝ }
+{
+    let mut t = s;
+    t.abort = true;
+    t
+}
+
+// Whether a host's write sets CHER of the channel in service.
+fn aborts(s: Service, address: usize, value: u8) -> bool
+    ensures { λ r. ⌜ r ≡ service.aborts s address value ⌝ }
+{
+    let e = s.effort;
+    if stage::in_service(e.progress) {
+        if address == channels::base(s.channel) + 3 {
+            return channels::cher(value);
+        }
+        return false;
+    }
+    false
+}
+
 // What a write asks of the service: REAR, or an abort.
 fn service_asked(s: Service, address: usize, v: u8) -> Service
     ensures { λ r. ⌜ r ≡ rule.serviceAsked s address v ⌝ }
@@ -93,8 +181,8 @@ fn service_asked(s: Service, address: usize, v: u8) -> Service
     if address == Map::COMMAND {
         return rear_commanded(s, v);
     }
-    if service::aborts(s, address, v) {
-        return service::abort_asked(s);
+    if aborts(s, address, v) {
+        return abort_asked(s);
     }
     s
 }
@@ -134,7 +222,7 @@ pub fn written(m: &mut [u8; 256], k: Core, address: usize, v: u8) -> Core
         return reset(m);
     }
     if sleeps(address, v) {
-        return state::slept(k);
+        return slept(k);
     }
     byte_written(m, k, address, v)
 }

@@ -63,11 +63,11 @@ pub fn slot(c: Controller, levels: u16) -> Outcome
     Outcome { reply, next: t }
 }
 
+// The interrupt line.
 pub fn interrupt(c: Controller) -> bool
     ensures { λ r. ⌜ r ≡ host_rule.interruptLine c ⌝ }
 {
-    let t = c;
-    host::interrupt_on(&t.memory, t.core)
+    status::asserted(c.core.report.flags, c.memory[Map::INTERRUPT_ENABLE])
 }
 
 // The paper's number of a refusal.

@@ -4,13 +4,40 @@ ghost use Prim.Native.Nat.{_%_};
 ghost use lib.Dec.{eqb};
 ghost use Rattle.line.specs.Bits.{pick};
 ghost use Rattle.rules.specs.Host as rule;
+ghost use Rattle.rules.specs.State as core;
 ghost use Rattle.rules.specs.Run as run;
 ghost use Rattle.rules.specs.Answers as answers;
 use registers::Map;
+use rules::Activity;
 use rules::Core;
 use rules::CoreOutcome;
+use rules::Mode;
 use rules::Refusal;
 use rules::Reply;
+
+// ---- modes
+
+fn is_asleep(a: Activity) -> bool
+    ensures { λ r. ⌜ r ≡ core.isAsleep (a .mode) ⌝ }
+{
+    let mode = a.mode;
+    match mode {
+        Mode::Idle => false, // it answers the host
+        Mode::Active => false,
+        Mode::Asleep => true,
+    }
+}
+
+fn is_idle(a: Activity) -> bool
+    ensures { λ r. ⌜ r ≡ core.isIdle (a .mode) ⌝ }
+{
+    let mode = a.mode;
+    match mode {
+        Mode::Idle => true,
+        Mode::Active => false, // even while an idle waits
+        Mode::Asleep => false,
+    }
+}
 
 // ---- an accepted read
 
@@ -19,8 +46,8 @@ fn line_status_of(k: Core) -> u8
 {
     let r = k.reception;
     status::line_status(
-        state::is_asleep(k.activity),
-        state::is_idle(k.activity),
+        is_asleep(k.activity),
+        is_idle(k.activity),
         state::serving(k.service),
         place::under_way(r.place),
     )
@@ -116,7 +143,7 @@ pub fn host_write_on(m: &mut [u8; 256], k: Core, address: u16, value: u16) -> Co
     ensures { λ r. ⌜ answers.answerLent r (now (m .exit)) ≡ run.hostWrite (answers.controller (now (m .entry)) k) address value ⌝ }
 {
     if state::in_range(k) {
-        if state::is_asleep(k.activity) { // 7 before 1
+        if is_asleep(k.activity) { // 7 before 1
             return CoreOutcome {
                 reply: Reply::Refused(Refusal::Asleep),
                 next: k,
@@ -164,7 +191,7 @@ pub fn host_read_on(m: &[u8; 256], k: Core, address: u16) -> CoreOutcome
     ensures { λ r. ⌜ answers.answerLent r (now (m .entry)) ≡ run.hostRead (answers.controller (now (m .entry)) k) address ⌝ }
 {
     if state::in_range(k) {
-        if state::is_asleep(k.activity) {
+        if is_asleep(k.activity) {
             return CoreOutcome {
                 reply: Reply::Refused(Refusal::Asleep),
                 next: k,
@@ -182,12 +209,4 @@ pub fn host_read_on(m: &[u8; 256], k: Core, address: u16) -> CoreOutcome
         reply: Reply::Refused(Refusal::Range),
         next: k,
     }
-}
-
-// The interrupt line.
-pub fn interrupt_on(m: &[u8; 256], k: Core) -> bool
-    ensures { λ r. ⌜ r ≡ rule.interruptLine (answers.controller (now (m .entry)) k) ⌝ }
-{
-    let x = k.report;
-    status::asserted(x.flags, m[Map::INTERRUPT_ENABLE])
 }

@@ -68,7 +68,7 @@ pub fn check_bit(remainder: u16, bit: u8) -> u16
 }
 
 // The remainder once the four bits of a nibble are divided.
-pub fn check_nibble(remainder: u16, nibble: u8) -> u16
+fn check_nibble(remainder: u16, nibble: u8) -> u16
     ensures { λ r. ⌜ r ≡ check.remainder remainder (bits.bits 4 nibble) ⌝ }
 {
     let a = check_bit(remainder, nibble / 8 % 2);

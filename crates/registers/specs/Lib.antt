@@ -1,1 +1,1 @@
-pub mod Reserved
+pub mod Command

@@ -1,13 +1,21 @@
 // The control registers (01, Memory map; 000, Control and Status Registers).
 // 0x00, 0x01, 0x02 and 0x0A stand in the memory map. 0x04 to 0x07 and 0x09 are kept as bools and numbers; their byte is made when it is read.
 ghost use mathlib.Core.Path.{_≡_};
-ghost use mathlib.Core.Bool.{true, false};
 ghost use Rattle.rules.specs.Registers as rule;
 ghost use Rattle.rules.specs.Mailbox as memory;
-ghost use Rattle.registers.specs.Reserved as map;
+ghost use Rattle.registers.specs.Command as map;
 use rules::Flags;
 use rules::Report;
 use rules::Retries;
+
+// What a write of the command register asks for.
+pub struct Command {
+    pub reset: bool,
+    pub sleep: bool,
+    pub idle: bool,
+    pub activation: bool,
+    pub rearbitration: bool,
+}
 
 // The register map: address, reset value, and reserved or fixed bits of each control register.
 pub struct Map {}
@@ -118,28 +126,6 @@ impl Map {
         true
     }
 
-    // The bits of a register that document 000 reserves.
-    pub fn reserved_bits(address: usize) -> u8
-        ensures { λ r. ⌜ r ≡ map.reservedBits address ⌝ }
-    {
-        if address == Map::LINE_CONTROL {
-            return Map::LINE_CONTROL_RESERVED;
-        }
-        if address == Map::TRANSMIT_CONTROL {
-            return Map::TRANSMIT_CONTROL_FIXED;
-        }
-        if address == Map::COMMAND {
-            return Map::COMMAND_FIXED;
-        }
-        if address == Map::INTERRUPT_ENABLE {
-            return Map::INTERRUPT_ENABLE_RESERVED;
-        }
-        if address == Map::INTERRUPT_RESET {
-            return Map::INTERRUPT_RESET_RESERVED;
-        }
-        0
-    }
-
     // 0x00: IVRX.
     fn inverts_receive(control: u8) -> bool
         ensures { λ r. ⌜ r ≡ rule.invertsReceive control ⌝ }
@@ -182,39 +168,17 @@ impl Map {
         0
     }
 
-    // 0x03: GRES.
-    pub fn asks_reset(command: u8) -> bool
-        ensures { λ r. ⌜ r ≡ rule.asksReset command ⌝ }
+    // 0x03: GRES, SLEEP, IDLE, ACTI, REAR.
+    pub fn asked(command: u8) -> Command
+        ensures { λ r. ⌜ r ≡ map.asked command ⌝ }
     {
-        command / 128 == 1
-    }
-
-    // 0x03: SLEEP.
-    pub fn asks_sleep(command: u8) -> bool
-        ensures { λ r. ⌜ r ≡ rule.asksSleep command ⌝ }
-    {
-        command / 64 % 2 == 1
-    }
-
-    // 0x03: IDLE.
-    pub fn asks_idle(command: u8) -> bool
-        ensures { λ r. ⌜ r ≡ rule.asksIdle command ⌝ }
-    {
-        command / 32 % 2 == 1
-    }
-
-    // 0x03: ACTI.
-    pub fn asks_activation(command: u8) -> bool
-        ensures { λ r. ⌜ r ≡ rule.asksActivation command ⌝ }
-    {
-        command / 16 % 2 == 1
-    }
-
-    // 0x03: REAR.
-    pub fn asks_rearbitration(command: u8) -> bool
-        ensures { λ r. ⌜ r ≡ rule.asksRearbitration command ⌝ }
-    {
-        command / 8 % 2 == 1
+        Command {
+            reset: command / 128 == 1,
+            sleep: command / 64 % 2 == 1,
+            idle: command / 32 % 2 == 1,
+            activation: command / 16 % 2 == 1,
+            rearbitration: command / 8 % 2 == 1,
+        }
     }
 
     // Reset of the registers in the memory map; channels and mailbox stay.
@@ -252,13 +216,6 @@ impl Map {
                 rnok: Map::INTERRUPT_STATUS_RESET % 2 == 1,
             },
         }
-    }
-
-    // 0x04 after a reset: idle, no frame.
-    pub fn reset_line_status() -> u8
-        ensures { λ r. ⌜ r ≡ rule.lineStatus false true false false ⌝ }
-    {
-        Map::LINE_STATUS_RESET
     }
 }
 

@@ -1,4 +1,4 @@
-// The sending service: choice, start, abort, REAR (01, Sending; 000, Retries, Rearbitrate and Abort).
+// The sending service: role, choice, start (01, Sending; 000, Retries).
 ghost use mathlib.Core.Path.{_≡_};
 ghost use Rattle.rules.specs.Service as rule;
 use registers::Map;
@@ -91,41 +91,6 @@ pub fn started(s: Service, autonomous: bool, l: Line, r: Reception) -> Service
         return s;
     }
     s
-}
-
-// ---- abort and REAR
-
-// An abort waits for the end of the attempt.
-pub fn abort_asked(s: Service) -> Service
-    ensures { λ r. ⌜ r ≡ rule.abortAsked s ⌝ }
-{
-    let mut t = s;
-    t.abort = true;
-    t
-}
-
-// REAR without a service is not remembered.
-pub fn rear_asked(s: Service) -> Service
-    ensures { λ r. ⌜ r ≡ rule.rearAsked s ⌝ }
-{
-    let e = s.effort;
-    let mut t = s;
-    t.rear = stage::in_service(e.progress);
-    t
-}
-
-// Whether a host's write sets CHER of the channel in service.
-pub fn aborts(s: Service, address: usize, value: u8) -> bool
-    ensures { λ r. ⌜ r ≡ rule.aborts s address value ⌝ }
-{
-    let e = s.effort;
-    if stage::in_service(e.progress) {
-        if address == channels::base(s.channel) + 3 {
-            return channels::cher(value);
-        }
-        return false;
-    }
-    false
 }
 
 // ---- the model's own frame, for the line

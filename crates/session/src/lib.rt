@@ -1,13 +1,6 @@
 // Reads a session: lent bytes and a reading place moving over them.
 ghost use mathlib.Core.Path.{_≡_};
-ghost use mathlib.Core.List.{List, _++_};
-ghost use Prim.Native.Nat.{ℕ, _≤_};
-ghost use lib.ListN.{length, take};
-ghost use Rattle.number.specs.Number.{Bytes};
 ghost use Rattle.session.specs.Reading as rule;
-ghost use Rattle.session.specs.Writing.{sessionBytes, AllFit};
-ghost use Rattle.session.specs.Stands.{Settled};
-ghost use Rattle.session.specs.Claims.{Answered, Begins, Good};
 ghost use Rattle.session.specs.Cases.{Marked};
 
 // Why a session is refused.
@@ -84,7 +77,7 @@ pub fn code_of(f: Fault) -> u8
 }
 
 // The number at a place. A place past the end is the end.
-pub fn number_at(s: &[u8], at: usize) -> Number
+fn number_at(s: &[u8], at: usize) -> Number
     ensures { λ r. ⌜ r ≡ rule.numberAt (now (s .entry)) at ⌝ }
 {
     if s.len() <= at {
@@ -133,7 +126,7 @@ fn count_at(s: &[u8], at: usize) -> Header
 }
 
 // The event at a place.
-pub fn event_at(s: &[u8], at: usize) -> Item
+fn event_at(s: &[u8], at: usize) -> Item
     ensures { λ r. ⌜ r ≡ rule.eventAt (now (s .entry)) at ⌝ }
 {
     match number_at(s, at) {
@@ -205,7 +198,7 @@ pub fn next<'a>(r: Session<'a>) -> Item
 
 // The event at a place, for callers that hold no reading place.
 pub fn event_from(s: &[u8], at: usize) -> Item
-    ensures { λ r. ⌜ r ≡ rule.eventAt (now (s .entry)) at ⌝ }
+    ensures { λ i. ⌜ i ≡ rule.eventAt (now (s .entry)) at ⌝ }
 {
     next(moved(open(s), at))
 }
@@ -238,25 +231,7 @@ fn events_from(s: &[u8], count: u16, first: usize) -> Outcome
     }
 }
 
-// Claim: any bytes are answered, with the place of a fault in the input or at its end.
-pub fn total()
-    ensures { λ _. ⌜ ((most : ℕ) (s : List ℕ) → Bytes s → Answered most s (rule.session most s)) ⌝ }
-{}
-
-// Claim: the events before a fault are the same whatever follows its place, and a fault that is no cut is the same whatever follows the input.
-pub fn prefix()
-    ensures events { λ _. ⌜ ((most : ℕ) (s : List ℕ) → Bytes s → (c : ℕ) (r : rule.Events) → rule.session most s ≡ rule.Counted c r → (f : Fault) (p : ℕ) → r .end ≡ End.Bad f p → (t : List ℕ) → Begins c (r .events) (rule.session most (take p s ++ t))) ⌝ }
-    ensures fault { λ _. ⌜ ((most : ℕ) (s t : List ℕ) → Bytes s → Settled (rule.session most s) → rule.session most (s ++ t) ≡ rule.session most s) ⌝ }
-{}
-
-// Claim: a good session is the written form of its events, every written form of at most 4,096 events is a good session, and it has at most 28,675 bytes.
-pub fn good_session()
-    ensures determined { λ _. ⌜ ((most : ℕ) (s : List ℕ) → Bytes s → (es : List Event) → Good most s es → (length es ≤ most) × AllFit es × (s ≡ sessionBytes es)) ⌝ }
-    ensures complete { λ _. ⌜ ((es : List Event) → length es ≤ rule.longest → AllFit es → Good rule.longest (sessionBytes es) es) ⌝ }
-    ensures bounded { λ _. ⌜ ((s : List ℕ) → Bytes s → (es : List Event) → Good rule.longest s es → length s ≤ 28675) ⌝ }
-{}
-
-// Claim: the marked cases of sessions.
+// Claim: the marked cases of sessions. What holds of every session is stated in crate claims.
 pub fn marked()
     ensures { λ _. ⌜ Marked ⌝ }
 {}

@@ -26,28 +26,6 @@ pub fn is_active(a: Activity) -> bool
     }
 }
 
-pub fn is_asleep(a: Activity) -> bool
-    ensures { λ r. ⌜ r ≡ rule.isAsleep (a .mode) ⌝ }
-{
-    let mode = a.mode;
-    match mode {
-        Mode::Idle => false, // it answers the host
-        Mode::Active => false,
-        Mode::Asleep => true,
-    }
-}
-
-pub fn is_idle(a: Activity) -> bool
-    ensures { λ r. ⌜ r ≡ rule.isIdle (a .mode) ⌝ }
-{
-    let mode = a.mode;
-    match mode {
-        Mode::Idle => true,
-        Mode::Active => false, // even while an idle waits
-        Mode::Asleep => false,
-    }
-}
-
 fn in_mode(mode: Mode, waiting: bool) -> Activity
     ensures { λ r. ⌜ r ≡ rule.inMode mode waiting ⌝ }
 {
@@ -178,7 +156,7 @@ pub fn reset_core() -> Core
     }
 }
 
-// ---- IDLE, SLEEP, ACTI
+// ---- IDLE
 
 // Idle acts: the frame under way is dropped.
 fn idled(k: Core) -> Core
@@ -202,41 +180,4 @@ pub fn idle_due(k: Core) -> Core
         return idled(k);
     }
     k
-}
-
-// SLEEP acts at once: service and frame go, registers and flags stay.
-pub fn slept(k: Core) -> Core
-    ensures { λ r. ⌜ r ≡ rule.slept k ⌝ }
-{
-    let mut t = k;
-    t.activity = in_mode(Mode::Asleep, false);
-    t.reception = reception::quiet();
-    t.service = ending::resting();
-    t
-}
-
-// IDLE waits for the end of the service; whether it is due is asked afterwards.
-pub fn idle_asked(k: Core) -> Core
-    ensures { λ r. ⌜ r ≡ rule.idleAsked k ⌝ }
-{
-    if is_active(k.activity) {
-        let mut t = k;
-        t.activity = in_mode(Mode::Active, true);
-        return t;
-    }
-    k
-}
-
-// ACTI in active mode only cancels a waiting idle; else twelve recessive slots are wanted.
-pub fn activated(k: Core) -> Core
-    ensures { λ r. ⌜ r ≡ rule.activated k ⌝ }
-{
-    let mut t = k;
-    if is_active(k.activity) {
-        t.activity = in_mode(Mode::Active, false);
-        return t;
-    }
-    t.activity = in_mode(Mode::Active, false);
-    t.line = free_line::unsettled();
-    t
 }

@@ -1,5 +1,4 @@
-use mathlib.Core.Path.{refl}
-use borrow.Author.Tests.{lt-ltb, le-ltb, le-leb, lt-leb, eq-eqb, ne-eqb}
+use borrow.Author.Needs.{needs}
 use Rattle.rules.specs.Host.{interruptLine}
 use Rattle.controller.proofs.interrupt.Statement.{statement}
 use Rattle.controller.proofs.interrupt.Tie as tie
@@ -8,5 +7,6 @@ pub interrupt-spec : {M : Type 1} → statement M
 unfolding interruptLine
 interrupt-spec =
     tie.close (tie.spec
+    (λ c. search needs)
     (λ c κs. tt)
-    (λ c. simp (← (c .interrupt-on .ensures))))
+    (λ c. simp (← (c .asserted .ensures))))

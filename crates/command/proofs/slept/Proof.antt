@@ -1,0 +1,11 @@
+use Rattle.rules.specs.State.{slept, inMode}
+use Rattle.command.proofs.slept.Statement.{statement}
+use Rattle.command.proofs.slept.Tie as tie
+
+pub slept-spec : {M : Type 1} → statement M
+unfolding slept inMode
+slept-spec =
+    tie.close (tie.spec
+    (λ c κs. tt)
+    (λ c κs. tt)
+    (λ c. simp (← (c .resting .ensures), ← (c .before .quiet .ensures))))

@@ -1,0 +1,11 @@
+use mathlib.Core.Path.{refl}
+use Rattle.rules.specs.Registers.{asksReset, asksSleep, asksIdle, asksActivation, asksRearbitration}
+use Rattle.registers.specs.Command.{asked}
+use Rattle.registers.proofs.Map.asked.Statement.{statement}
+use Rattle.registers.proofs.Map.asked.Tie as tie
+
+pub asked-spec : {M : Type 1} → statement M
+unfolding asked asksReset asksSleep asksIdle asksActivation asksRearbitration
+asked-spec =
+    tie.close (tie.spec
+    (λ c. refl))
