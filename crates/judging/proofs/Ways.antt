@@ -1,25 +1,27 @@
--- The ordinary slot leaves map, registers and service; the sample is judged by who sends.
+-- The ordinary slot touches neither map nor registers; the sample is judged by who sends.
 use Prim.Native.Nat.{ℕ}
 use mathlib.Core.Bool.{Bool, true, false, false≢true}
 use mathlib.Core.List.{List}
 use mathlib.Core.Path.{_≡_, refl, sym, _∙_, ap}
 use Rattle.line.specs.Bits.{pick}
 use Rattle.rules.specs.Registers.{both}
-use Rattle.rules.specs.Hearing.{lineAfter}
 use Rattle.rules.specs.Delivery.{deliveryOf, deliveryTo, memoryDelivered, reportHeard, reportDelivered}
 use Rattle.rules.specs.Attempt.{advance, drivesFrame, judge}
-use Rattle.rules.specs.Service.{stopped, endingOf, settled, memoryEnded, reportJudged, reportEnded, withEffort, roleOf, hearOwn}
-use Rattle.rules.specs.Slots.{heard, heardAs, delivers, ending, serviceJudged, reportAfter, memoryJudged, coreJudged, receptionJudged}
+use Rattle.rules.specs.Service.{endingOf, settled, memoryEnded, reportJudged, reportEnded, hearOwn, roleOf}
+use Rattle.rules.specs.Slots.{heard, heardAs, delivers}
 use Rattle.rules.specs.declared.Hearing.{Hearing}
 use Rattle.rules.specs.declared.Hearing.the-variants.{Silent, Follows, Fault, Good}
 use Rattle.rules.specs.declared.Delivery.the-variants.{Nothing}
 use Rattle.rules.specs.declared.Verdict.{Verdict}
-use Rattle.rules.specs.declared.Verdict.the-variants.{Unjudged}
+use Rattle.rules.specs.declared.Verdict.the-variants.{Unjudged, Goes, Lost, Failed, Done}
 use Rattle.rules.specs.declared.Ending.{Ending}
 use Rattle.rules.specs.declared.Ending.the-variants.{Going, Sent, Exhausted, Aborted, Rearbitrated}
 use Rattle.rules.specs.declared.Reception.{Reception}
+use Rattle.rules.specs.declared.Report.{Report}
+use Rattle.rules.specs.declared.Effort.{Effort}
+use Rattle.rules.specs.declared.Service.{Service}
 use Rattle.rules.specs.declared.Core.{Core}
-use Rattle.judging.specs.Ordinary.{memoryAfter, coreAfter, passes, goes, ordinary, passed}
+use Rattle.judging.specs.Ordinary.{passes, unmarked, goes, ordinary, reportOf}
 
 both-left : (a b : Bool) → both a b ≡ true → a ≡ true
 both-left true b e = refl
@@ -40,67 +42,77 @@ pick-same : {A : Type 0} (b : Bool) (a : A) → pick b a a ≡ a
 pick-same true a = refl
 pick-same false a = refl
 
-nothing : (h : Hearing) (r : Reception) → passes h ≡ true → delivers Unjudged h r ≡ Nothing
-unfolding delivers deliveryOf deliveryTo passes
-nothing Silent r e = pick-same (r .winner .matched) Nothing
-nothing Follows r e = pick-same (r .winner .matched) Nothing
-nothing (Fault code) r e = absurd (false≢true e)
-nothing Good r e = absurd (false≢true e)
+undelivered : (h : Hearing) (r : Reception) → passes h ≡ true → deliveryOf h r ≡ Nothing
+unfolding deliveryOf deliveryTo passes
+undelivered Silent r e = pick-same (r .winner .matched) Nothing
+undelivered Follows r e = pick-same (r .winner .matched) Nothing
+undelivered (Fault code) r e = absurd (false≢true e)
+undelivered Good r e = absurd (false≢true e)
 
-unheard : (h : Hearing) (k : Core) → passes h ≡ true → reportHeard h (k .report) ≡ k .report
+nothing : (w : Verdict) (h : Hearing) (r : Reception) → unmarked w ≡ true → passes h ≡ true → delivers w h r ≡ Nothing
+unfolding delivers unmarked
+nothing Unjudged h r u e = undelivered h r e
+nothing Goes h r u e = refl
+nothing Lost h r u e = absurd (false≢true u)
+nothing (Failed code) h r u e = absurd (false≢true u)
+nothing Done h r u e = absurd (false≢true u)
+
+unheard : (h : Hearing) (a : Report) → passes h ≡ true → reportHeard h a ≡ a
 unfolding reportHeard passes
-unheard Silent k e = refl
-unheard Follows k e = refl
-unheard (Fault code) k e = absurd (false≢true e)
-unheard Good k e = absurd (false≢true e)
+unheard Silent a e = refl
+unheard Follows a e = refl
+unheard (Fault code) a e = absurd (false≢true e)
+unheard Good a e = absurd (false≢true e)
 
-module _ (k : Core) (h : Hearing) (e : ordinary h (stopped (k .service)) ≡ true) where
+uncounted : (w : Verdict) (a : Report) (s : Service) → unmarked w ≡ true → reportJudged w a s ≡ a
+unfolding reportJudged unmarked
+uncounted Unjudged a s u = refl
+uncounted Goes a s u = refl
+uncounted Lost a s u = absurd (false≢true u)
+uncounted (Failed code) a s u = absurd (false≢true u)
+uncounted Done a s u = absurd (false≢true u)
+
+module _ (w : Verdict) (h : Hearing) (s : Service) (x : Ending) (is : x ≡ endingOf w s) (e : ordinary w h x ≡ true) where
   pass : passes h ≡ true
   unfolding ordinary
-  pass = both-left (passes h) (goes (stopped (k .service))) e
+  pass = both-left (passes h) (both (unmarked w) (goes x)) e
 
-  goes-on : ending k Unjudged ≡ Going
-  unfolding ordinary ending serviceJudged endingOf advance withEffort
-  goes-on = going (stopped (k .service)) (both-right (passes h) (goes (stopped (k .service))) e)
+  rest : both (unmarked w) (goes x) ≡ true
+  unfolding ordinary
+  rest = both-right (passes h) (both (unmarked w) (goes x)) e
 
-  pub ordinary-memory : (m : List ℕ) → memoryJudged m k Unjudged h ≡ m
-  unfolding memoryJudged memoryEnded memoryDelivered
-  ordinary-memory m = rw (goes-on, nothing h (k .reception) pass)
+  on : endingOf w s ≡ Going
+  on = sym is ∙ going x (both-right (unmarked w) (goes x) rest)
 
-  pub ordinary-core : (m : List ℕ) (v : ℕ) → coreJudged m k Unjudged h v ≡ passed m k h v
-  unfolding coreJudged passed reportAfter reportEnded reportJudged reportDelivered settled serviceJudged withEffort advance
-  ordinary-core m v = rw (goes-on, nothing h (k .reception) pass, unheard h k pass)
+  mark : unmarked w ≡ true
+  mark = both-left (unmarked w) (goes x) rest
+
+  pub memory-kept : (m : List ℕ) (r : Reception) (c : ℕ) → m ≡ memoryEnded (endingOf w s) (memoryDelivered (delivers w h r) m r) c
+  unfolding memoryEnded memoryDelivered
+  memory-kept m r c = rw (on, nothing w h r mark pass)
+
+  pub report-kept : (k : Core) → k .report ≡ reportOf k w h s
+  unfolding reportOf reportEnded reportDelivered
+  report-kept k = rw (on, nothing w h (k .reception) mark pass, unheard h (k .report) pass, uncounted w (k .report) s mark)
+
+  pub service-kept : s ≡ settled (endingOf w s) s
+  unfolding settled
+  service-kept = rw on
 
 -- the model is not the sender
-module _ (m : List ℕ) (k : Core) (v : ℕ) (h : Hearing) (not : drivesFrame (k .service .effort .progress) ≡ false) (is : h ≡ heard k Unjudged v) where
-  unjudged : judge (k .service .effort) v ≡ Unjudged
-  unfolding judge
-  unjudged = rw not
+pub unjudged : (e : Effort) (v : ℕ) → drivesFrame (e .progress) ≡ false → Unjudged ≡ judge e v
+unfolding judge
+unjudged e v not = rw not
 
-  pub memory-other : memoryJudged m k Unjudged h ≡ memoryAfter m k v
-  unfolding memoryAfter
-  memory-other = rw (unjudged, is)
+pub unspent : (e : Effort) (v : ℕ) → drivesFrame (e .progress) ≡ false → e ≡ advance (judge e v) e
+unfolding judge advance
+unspent e v not = rw not
 
-  pub core-other : coreJudged (memoryJudged m k Unjudged h) k Unjudged h v ≡ coreAfter m k v
-  unfolding coreAfter memoryAfter
-  core-other = rw (unjudged, is)
-
-  pub memory-passed : ordinary h (stopped (k .service)) ≡ true → m ≡ memoryAfter m k v
-  memory-passed e = sym (ordinary-memory k h e m) ∙ memory-other
-
-  pub core-passed : ordinary h (stopped (k .service)) ≡ true → passed m k h v ≡ coreAfter m k v
-  core-passed e = sym (ordinary-core k h e m v) ∙ ap (λ (x : List ℕ). coreJudged x k Unjudged h v) (sym (ordinary-memory k h e m)) ∙ core-other
+pub heard-other : (k : Core) (v : ℕ) (h : Hearing) → drivesFrame (k .service .effort .progress) ≡ false → h ≡ heard k Unjudged v → h ≡ heard k (judge (k .service .effort) v) v
+unfolding judge
+heard-other k v h not is = rw not is
 
 -- the model is the sender
-module _ (m : List ℕ) (k : Core) (v : ℕ) (w : Verdict) (h : Hearing) (does : drivesFrame (k .service .effort .progress) ≡ true) (tried : w ≡ judge (k .service .effort) v) (own : h ≡ hearOwn w) where
-  heard-own : heard k w v ≡ h
-  unfolding heard heardAs roleOf
-  heard-own = rw (does, own)
-
-  pub memory-own : memoryJudged m k w h ≡ memoryAfter m k v
-  unfolding memoryAfter
-  memory-own = rw (← tried, heard-own)
-
-  pub core-own : coreJudged (memoryJudged m k w h) k w h v ≡ coreAfter m k v
-  unfolding coreAfter memoryAfter
-  core-own = rw (← tried, heard-own)
+pub heard-own : (k : Core) (v : ℕ) (w : Verdict) (h : Hearing) → drivesFrame (k .service .effort .progress) ≡ true → w ≡ judge (k .service .effort) v → h ≡ hearOwn w → h ≡ heard k (judge (k .service .effort) v) v
+unfolding heard heardAs roleOf
+heard-own k v w h does tried is = rw does (is ∙ ap hearOwn tried)

@@ -1,12 +1,17 @@
--- A slot by its ways: memory map and state once the sample is judged; and the ordinary slot, in which only line and frame move.
---   memoryAfter, coreAfter == what the sample does, before idle, choice and start        ordinary, passed == the slot in which neither map, registers nor service change
+-- A slot by its ways: memory map and state once the sample is judged; and the ordinary slot, which touches no mailbox, no channel and no register.
+--   memoryAfter, coreAfter == what the sample does, before idle, choice and start        ordinary == the slot in which neither map nor registers change        reportOf == the registers after a sample
 use Prim.Native.Nat.{ℕ}
 use mathlib.Core.Bool.{Bool, true, false}
 use mathlib.Core.List.{List}
 use Rattle.rules.specs.Registers.{both}
-use Rattle.rules.specs.Hearing.{lineAfter}
+use Rattle.rules.specs.Delivery.{reportHeard, reportDelivered}
 use Rattle.rules.specs.Attempt.{judge}
-use Rattle.rules.specs.Slots.{heard, memoryJudged, coreJudged, receptionJudged}
+use Rattle.rules.specs.Service.{endingOf, reportJudged, reportEnded}
+use Rattle.rules.specs.Slots.{heard, delivers, memoryJudged, coreJudged}
+use Rattle.rules.specs.declared.Report.{Report}
+use Rattle.rules.specs.declared.Service.{Service}
+use Rattle.rules.specs.declared.Verdict.{Verdict}
+use Rattle.rules.specs.declared.Verdict.the-variants.{Unjudged, Goes, Lost, Failed, Done}
 use Rattle.rules.specs.declared.Hearing.{Hearing}
 use Rattle.rules.specs.declared.Hearing.the-variants.{Silent, Follows, Fault, Good}
 use Rattle.rules.specs.declared.Ending.{Ending}
@@ -32,15 +37,16 @@ goes Exhausted = false
 goes Aborted = false
 goes Rearbitrated = false
 
-unfoldable pub ordinary : Hearing → Ending → Bool
-ordinary h x = both (passes h) (goes x)
+unfoldable pub unmarked : Verdict → Bool
+unmarked Unjudged = true
+unmarked Goes = true
+unmarked Lost = false
+unmarked (Failed code) = false
+unmarked Done = false
 
-unfoldable pub passed : List ℕ → Core → Hearing → ℕ → Core
-passed m k h v =
-    record {
-      activity = k .activity;
-      report = k .report;
-      line = lineAfter h (k .line) v;
-      reception = receptionJudged m h (k .reception) v;
-      service = k .service;
-    }
+unfoldable pub ordinary : Verdict → Hearing → Ending → Bool
+ordinary w h x = both (passes h) (both (unmarked w) (goes x))
+
+-- The registers once the sample has done its work: 0x07, what the frame did, 0x05 at an error, the end of the service.
+unfoldable pub reportOf : Core → Verdict → Hearing → Service → Report
+reportOf k w h s = reportEnded (endingOf w s) (reportJudged w (reportDelivered (delivers w h (k .reception)) (reportHeard h (k .report)) (k .reception)) s) s

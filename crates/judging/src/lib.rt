@@ -19,6 +19,19 @@ use rules::Report;
 use rules::Service;
 use rules::Verdict;
 
+// What a sample is: for the attempt, for the effort, which has it counted, and for the line.
+struct Judgement {
+    verdict: Verdict,
+    effort: Effort,
+    hearing: Hearing,
+}
+
+// What a sample does to registers and service.
+struct Effects {
+    report: Report,
+    service: Service,
+}
+
 // The longest data field.
 const LONGEST: u8 = 30;
 
@@ -88,7 +101,7 @@ fn reception_judged(m: &[u8; 256], h: Hearing, r: Reception, v: u8) -> Reception
 
 // 0x07, then what the frame did, then 0x05 at an error, then the end of the service; s has the sample counted.
 fn report_after(k: Core, w: Verdict, h: Hearing, s: Service) -> Report
-    ensures { λ r. ⌜ r ≡ service_rule.reportEnded (service_rule.endingOf w s) (service_rule.reportJudged w (delivery_rule.reportDelivered (rule.delivers w h (k .reception)) (delivery_rule.reportHeard h (k .report)) (k .reception)) s) s ⌝ }
+    ensures { λ r. ⌜ r ≡ ordinary.reportOf k w h s ⌝ }
 {
     let d = delivers(w, h, k.reception);
     let a = reports::report_heard(h, k.report);
@@ -106,25 +119,7 @@ fn judge_memory(m: &mut [u8; 256], k: Core, w: Verdict, h: Hearing, x: Ending)
     ending::end_memory(m, x, k.service.channel);
 }
 
-// Memory map and state with the effects of a sample; e is the effort with the sample counted.
-fn judged(m: &mut [u8; 256], k: Core, w: Verdict, e: Effort, h: Hearing, v: u8) -> Core
-    requires { ⌜ e ≡ sending.advance w (k .service .effort) ⌝ }
-    ensures map { λ r. ⌜ now (m .exit) ≡ rule.memoryJudged (now (m .entry)) k w h ⌝ }
-    ensures core { λ r. ⌜ r ≡ rule.coreJudged (rule.memoryJudged (now (m .entry)) k w h) k w h v ⌝ }
-{
-    let mut s = k.service;
-    s.effort = e;
-    let x = ending::ending_of(w, s);
-    judge_memory(m, k, w, h, x);
-    let mut t = k;
-    t.report = report_after(k, w, h, s);
-    t.line = line_after(h, k.line, v);
-    t.reception = reception_judged(m, h, k.reception, v);
-    t.service = ending::settled(x, s);
-    t
-}
-
-// ---- the ordinary slot: neither map nor registers nor service change
+// ---- the ordinary slot: neither map nor registers change
 
 // The frame goes on, or there is none.
 fn passes(h: Hearing) -> bool
@@ -135,6 +130,19 @@ fn passes(h: Hearing) -> bool
         Hearing::Follows => true,
         Hearing::Fault(_) => false,
         Hearing::Good => false,
+    }
+}
+
+// The attempt goes on, or there is none.
+fn unmarked(w: Verdict) -> bool
+    ensures { λ r. ⌜ r ≡ ordinary.unmarked w ⌝ }
+{
+    match w {
+        Verdict::Unjudged => true,
+        Verdict::Goes => true,
+        Verdict::Lost => false,
+        Verdict::Failed(_) => false,
+        Verdict::Done => false,
     }
 }
 
@@ -150,56 +158,80 @@ fn goes(x: Ending) -> bool
     }
 }
 
-fn ordinary(h: Hearing, x: Ending) -> bool
-    ensures { λ r. ⌜ r ≡ ordinary.ordinary h x ⌝ }
+fn ordinary(w: Verdict, h: Hearing, x: Ending) -> bool
+    ensures { λ r. ⌜ r ≡ ordinary.ordinary w h x ⌝ }
 {
     if passes(h) {
-        return goes(x);
+        if unmarked(w) {
+            return goes(x);
+        }
+        return false;
     }
     false
 }
 
-fn passed(m: &[u8; 256], k: Core, h: Hearing, v: u8) -> Core
-    ensures { λ r. ⌜ r ≡ ordinary.passed (now (m .entry)) k h v ⌝ }
+// What a sample does to map, registers and service; s has the sample counted.
+fn take_effect(m: &mut [u8; 256], k: Core, w: Verdict, h: Hearing, s: Service) -> Effects
+    ensures map { λ r. ⌜ now (m .exit) ≡ service_rule.memoryEnded (service_rule.endingOf w s) (delivery_rule.memoryDelivered (rule.delivers w h (k .reception)) (now (m .entry)) (k .reception)) (k .service .channel) ⌝ }
+    ensures report { λ r. ⌜ r .report ≡ ordinary.reportOf k w h s ⌝ }
+    ensures service { λ r. ⌜ r .service ≡ service_rule.settled (service_rule.endingOf w s) s ⌝ }
 {
-    let mut t = k;
-    t.line = line_after(h, k.line, v);
-    t.reception = reception_judged(m, h, k.reception, v);
-    t
-}
-
-// A slot in which the model is not the sender.
-fn other_slot(m: &mut [u8; 256], k: Core, v: u8) -> Core
-    requires { ⌜ sending.drivesFrame (k .service .effort .progress) ≡ false ⌝ }
-    ensures map { λ r. ⌜ now (m .exit) ≡ ordinary.memoryAfter (now (m .entry)) k v ⌝ }
-    ensures core { λ r. ⌜ r ≡ ordinary.coreAfter (now (m .entry)) k v ⌝ }
-{
-    let h = heard(k, v);
-    if ordinary(h, ending::stopped(k.service)) {
-        return passed(m, k, h, v);
+    let x = ending::ending_of(w, s);
+    if ordinary(w, h, x) {
+        let report = k.report;
+        return Effects { report, service: s };
     }
-    judged(m, k, Verdict::Unjudged, k.service.effort, h, v)
-}
-
-// A slot of the model's own frame.
-fn own_slot(m: &mut [u8; 256], k: Core, v: u8) -> Core
-    requires { ⌜ sending.drivesFrame (k .service .effort .progress) ≡ true ⌝ }
-    ensures map { λ r. ⌜ now (m .exit) ≡ ordinary.memoryAfter (now (m .entry)) k v ⌝ }
-    ensures core { λ r. ⌜ r ≡ ordinary.coreAfter (now (m .entry)) k v ⌝ }
-{
-    let t = attempt::tried(k.service.effort, v);
-    let w = t.verdict;
-    judged(m, k, w, t.effort, service::hear_own(w), v)
+    judge_memory(m, k, w, h, x);
+    Effects {
+        report: report_after(k, w, h, s),
+        service: ending::settled(x, s),
+    }
 }
 
 // ---- the sample
 
+// What it is for the attempt, for the effort and for the line.
+fn judge(k: Core, v: u8) -> Judgement
+    ensures verdict { λ r. ⌜ r .verdict ≡ sending.judge (k .service .effort) v ⌝ }
+    ensures effort { λ r. ⌜ r .effort ≡ sending.advance (sending.judge (k .service .effort) v) (k .service .effort) ⌝ }
+    ensures hearing { λ r. ⌜ r .hearing ≡ rule.heard k (sending.judge (k .service .effort) v) v ⌝ }
+{
+    let e = k.service.effort;
+    if stage::drives_frame(e.progress) {
+        let t = attempt::tried(e, v);
+        let w = t.verdict;
+        let f = t.effort;
+        return Judgement {
+            verdict: w,
+            effort: f,
+            hearing: service::hear_own(w),
+        };
+    }
+    Judgement {
+        verdict: Verdict::Unjudged,
+        effort: e,
+        hearing: heard(k, v),
+    }
+}
+
+// What a sample does: effects first, then line and frame, whose winner is read from the map that the effects leave.
 pub fn sample_judged(m: &mut [u8; 256], k: Core, v: u8) -> Core
     ensures map { λ r. ⌜ now (m .exit) ≡ ordinary.memoryAfter (now (m .entry)) k v ⌝ }
     ensures core { λ r. ⌜ r ≡ ordinary.coreAfter (now (m .entry)) k v ⌝ }
 {
-    if stage::drives_frame(k.service.effort.progress) {
-        return own_slot(m, k, v);
-    }
-    other_slot(m, k, v)
+    let j = judge(k, v);
+    let w = j.verdict;
+    let h = j.hearing;
+    let e = j.effort;
+    let mut s = k.service;
+    s.effort = e;
+    let y = take_effect(m, k, w, h, s);
+    let report = y.report;
+    let service = y.service;
+    let mut t = k;
+    t.report = report;
+    t.service = service;
+    t.line = line_after(h, k.line, v);
+    t.reception = reception_judged(m, h, k.reception, v);
+    t
 }

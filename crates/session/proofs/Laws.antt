@@ -1,11 +1,12 @@
 -- What the number reader's answer on a part says of the number at a place.
-use Prim.Native.Nat.{ℕ, suc, _+_, _-_, _<_, _≤_, min}
-use mathlib.Core.List.{List}
+use Prim.Native.Nat.{ℕ, zero, suc, _+_, _-_, _<_, _≤_, min}
+use mathlib.Core.List.{List, [], _∷_}
 use mathlib.Core.Path.{_≡_, refl, ap, sym, _∙_}
 use native.Mathlib.Omega.{arith}
 use native.Mathlib.Nat.{add-zero, zero-add, sub-zero}
 use lib.Dec.{eqb}
-use lib.ListN.{length, drop, take, length-drop, drop-of-length-le}
+use borrow.Author.Tests.{lt-ltb}
+use lib.ListN.{length, getD, drop, take, length-drop, drop-of-length-le}
 use Rattle.number.specs.Number as numbers
 use Rattle.number.specs.Number.{pick, Read, Refusal, number, groups, restOf, valueOf, faultOf, refusalNumber}
 use Rattle.number.specs.Laws.{rest-fits, is-number, to-end}
@@ -23,6 +24,16 @@ use Rattle.session.specs.Walk.{none-due, stops, goes-on}
 pub past-end : (s : List ℕ) (at : ℕ) → length s ≤ at → Bad Cut (length s) ≡ numberAt s at
 unfolding numberAt placed number groups refusal
 past-end s at h = let e : min at (length s) ≡ length s = omega arith in rw (drop-of-length-le s h, e)
+
+-- one group
+drop-next : (s : List ℕ) (at : ℕ) → at < length s → drop at s ≡ getD s at 0 ∷ drop (suc at) s
+drop-next [] at h = absurd (omega (arith, h))
+drop-next (x ∷ xs) zero h = refl
+drop-next (x ∷ xs) (suc at) h = drop-next xs at (omega (arith, h))
+
+pub one-group : (s : List ℕ) (at : ℕ) → at < length s → getD s at 0 < 128 → Value (getD s at 0) (at + 1) ≡ numberAt s at
+unfolding numberAt placed number groups
+one-group s at h b = let l = length-drop (suc at) s in let e : length s - length (drop (suc at) s) ≡ at + 1 = omega arith in rw (drop-next s at h, lt-ltb _ _ b, e)
 
 -- the refusal of a number
 abbrev pub named : ℕ → Refusal

@@ -76,12 +76,16 @@ pub fn code_of(f: Fault) -> u8
     }
 }
 
-// The number at a place. A place past the end is the end.
+// The number at a place; a number of one group needs no reader. A place past the end is the end.
 fn number_at(s: &[u8], at: usize) -> Number
     ensures { λ r. ⌜ r ≡ rule.numberAt (now (s .entry)) at ⌝ }
 {
     if s.len() <= at {
         return Number::Bad(Fault::Cut, s.len());
+    }
+    let b = s[at];
+    if b < 128 {
+        return Number::Value(b as u16, at + 1);
     }
     let mut value = 0u16;
     let mut fault = 0u8;

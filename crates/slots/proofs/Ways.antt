@@ -1,16 +1,22 @@
--- Where nothing begins, nothing follows.
+-- Where nothing begins, nothing follows; the level from its parts.
 use Prim.Native.Nat.{ℕ}
 use mathlib.Core.Bool.{Bool, true, false, false≢true}
 use mathlib.Core.List.{List}
 use mathlib.Core.Path.{_≡_, refl, sym}
+use lib.ListN.{getD}
 use Rattle.line.specs.Bits.{pick}
+use Rattle.rules.specs.Registers.{lineControl, transmitted}
 use Rattle.rules.specs.Reception.{underWay, startEnded}
 use Rattle.rules.specs.Attempt.{waits}
-use Rattle.rules.specs.Service.{started}
+use Rattle.rules.specs.Service.{started, roleOf}
 use Rattle.rules.specs.State.{idleDue, isActive, serving, withService}
-use Rattle.rules.specs.Slots.{chooses, choiceMade, startMade, followsOn}
+use Rattle.rules.specs.Slots.{chooses, choiceMade, startMade, followsOn, drives, drivesAs}
+use Rattle.rules.specs.Run.{accept, answered}
+use Rattle.rules.specs.Answers.{controller}
+use Rattle.rules.specs.declared.Role.{Role}
+use Rattle.rules.specs.declared.Role.the-variants.{Nobody, Receiver, Sender}
 use Rattle.rules.specs.declared.Core.{Core}
-use Rattle.slots.specs.Follow.{begins}
+use Rattle.slots.specs.Follow.{begins, driven, drivenAs}
 
 pick-same : {A : Type 0} (b : Bool) (a : A) → pick b a a ≡ a
 pick-same true a = refl
@@ -55,3 +61,17 @@ no-start m k e = rw (not-ended k e, under-way k e, pick-same (waits (k .service 
 pub nothing-follows : (m : List ℕ) (k : Core) → begins k ≡ false → followsOn m k ≡ k
 unfolding followsOn
 nothing-follows m k e = rw (no-idle k e, no-choice m k e, no-start m k e)
+
+driven-as : (x : Role) (k : Core) → drivenAs x (k .service .effort .progress) (k .reception) (k .service .effort .frame) ≡ drivesAs x k
+unfolding drivenAs drivesAs
+driven-as Nobody k = refl
+driven-as Receiver k = refl
+driven-as Sender k = refl
+
+driven-is : (k : Core) → driven (k .service .effort .progress) (k .reception) (k .service .effort .frame) ≡ drives k
+unfolding driven drives
+driven-is k = driven-as (roleOf (k .service .effort .progress) (k .reception .place)) k
+
+pub answered-is : (m : List ℕ) (k : Core) (level : ℕ) → level ≡ driven (k .service .effort .progress) (k .reception) (k .service .effort .frame) → accept (transmitted (getD m lineControl 0) level) (controller m k) ≡ answered (controller m k)
+unfolding answered
+answered-is m k level is = rw (is, driven-is k)

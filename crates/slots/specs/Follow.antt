@@ -1,8 +1,27 @@
--- What lets a choice or a start follow: an idle that waits, no frame under way, or a start sequence that has just ended.
+-- A slot by its parts.
+--   begins == what lets a choice or a start follow        driven == the level for the next slot, from the attempt, the frame under way and the frame sent
+use Prim.Native.Nat.{ℕ}
 use mathlib.Core.Bool.{Bool, true}
 use Rattle.line.specs.Bits.{pick}
 use Rattle.rules.specs.Reception.{underWay, startEnded}
+use Rattle.rules.specs.Hearing.{receiverLevel}
+use Rattle.rules.specs.Attempt.{levelAt}
+use Rattle.rules.specs.Service.{roleOf}
+use Rattle.rules.specs.declared.Reception.{Reception}
+use Rattle.rules.specs.declared.Progress.{Progress}
+use Rattle.rules.specs.declared.Coded.{Coded}
+use Rattle.rules.specs.declared.Role.{Role}
+use Rattle.rules.specs.declared.Role.the-variants.{Nobody, Receiver, Sender}
 use Rattle.rules.specs.declared.Core.{Core}
 
+-- An idle that waits, no frame under way, or a start sequence that has just ended.
 unfoldable pub begins : Core → Bool
 begins k = pick (k .activity .waiting) true (pick (underWay (k .reception .place)) (startEnded (k .reception)) true)
+
+unfoldable pub drivenAs : Role → Progress → Reception → Coded → ℕ
+drivenAs Nobody p here frame = 1
+drivenAs Receiver p here frame = receiverLevel here
+drivenAs Sender p here frame = levelAt frame (p .at)
+
+unfoldable pub driven : Progress → Reception → Coded → ℕ
+driven p here frame = drivenAs (roleOf p (here .place)) p here frame

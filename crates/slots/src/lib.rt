@@ -1,12 +1,17 @@
 // A slot of the controller over a lent memory map: the sample is judged with its effects; then a waiting idle, the choice, the start, the answer (01, Receiving and Sending).
 ghost use mathlib.Core.Path.{_≡_};
+ghost use lib.ListN.{getD};
+ghost use Rattle.rules.specs.Registers as registers_rule;
 ghost use Rattle.rules.specs.Slots as rule;
 ghost use Rattle.rules.specs.Run as run;
 ghost use Rattle.rules.specs.Answers as answers;
 ghost use Rattle.slots.specs.Follow as follow;
 use registers::Map;
+use rules::Coded;
 use rules::Core;
 use rules::CoreOutcome;
+use rules::Progress;
+use rules::Reception;
 use rules::Refusal;
 use rules::Reply;
 use rules::Role;
@@ -86,14 +91,14 @@ fn follows_on(m: &[u8; 256], k: Core) -> Core
 
 // ---- the level for the next slot
 
-fn drives(k: Core) -> u8
-    ensures { λ r. ⌜ r ≡ rule.drives k ⌝ }
+fn drives(p: Progress, here: Reception, frame: Coded) -> u8
+    ensures { λ r. ⌜ r ≡ follow.driven p here frame ⌝ }
 {
-    let x = service::role_of(k.service.effort.progress, k.reception.place);
+    let x = service::role_of(p, here.place);
     match x {
         Role::Nobody => 1,
-        Role::Receiver => hearing::receiver_level(k.reception),
-        Role::Sender => driver::level_at(k.service.effort.frame, k.service.effort.progress.at),
+        Role::Receiver => hearing::receiver_level(here),
+        Role::Sender => driver::level_at(frame, p.at),
     }
 }
 
@@ -114,22 +119,11 @@ fn active_slot(m: &mut [u8; 256], k: Core, levels: u16) -> Core
 }
 
 // TXD after the transmit inversion.
-fn answered(m: &[u8; 256], k: Core) -> CoreOutcome
-    ensures { λ r. ⌜ answers.answerLent r (now (m .entry)) ≡ run.answered (answers.controller (now (m .entry)) k) ⌝ }
+fn answered(m: &[u8; 256], k: Core, level: u8) -> CoreOutcome
+    ensures { λ r. ⌜ answers.answerLent r (now (m .entry)) ≡ run.accept (registers_rule.transmitted (getD (now (m .entry)) registers_rule.lineControl 0) level) (answers.controller (now (m .entry)) k) ⌝ }
 {
-    let level = drives(k);
     CoreOutcome {
         reply: Reply::Accepted(registers::transmitted(m[Map::LINE_CONTROL], level)),
-        next: k,
-    }
-}
-
-// Idle and asleep: recessive, and nothing changes.
-fn rested(m: &[u8; 256], k: Core) -> CoreOutcome
-    ensures { λ r. ⌜ answers.answerLent r (now (m .entry)) ≡ run.restedSlot (answers.controller (now (m .entry)) k) ⌝ }
-{
-    CoreOutcome {
-        reply: Reply::Accepted(registers::transmitted(m[Map::LINE_CONTROL], 1)),
         next: k,
     }
 }
@@ -147,9 +141,12 @@ pub fn slot_on(m: &mut [u8; 256], k: Core, levels: u16) -> CoreOutcome
         }
         if state::is_active(k.activity) {
             let t = active_slot(m, k, levels);
-            return answered(m, t);
+            let p = t.service.effort.progress;
+            let here = t.reception;
+            let frame = t.service.effort.frame;
+            return answered(m, t, drives(p, here, frame));
         }
-        return rested(m, k);
+        return answered(m, k, 1);
     }
     CoreOutcome {
         reply: Reply::Refused(Refusal::Range),

@@ -1,3 +1,4 @@
+use borrow.Author.Needs.{needs}
 use mathlib.Core.Path.{refl}
 use borrow.Author.Tests.{lt-ltb, le-ltb, le-leb, lt-leb, eq-eqb, ne-eqb}
 use Rattle.judging.specs.Ordinary.{ordinary}
@@ -10,5 +11,7 @@ ordinary-spec =
     tie.close (tie.spec
     (λ c κs. tt)
     (λ c κs. tt)
-    (λ c. simp (c .before .if1 .taken, ← (c .goes .ensures), ← (c .before .before .passes .ensures)))
+    (λ c κs. tt)
+    (λ c. simp (c .before .if2 .taken, c .before .before .before .if1 .taken, ← (c .goes .ensures), ← (c .before .before .unmarked .ensures), ← (c .before .before .before .before .passes .ensures)))
+    (λ c. simp (c .if2 .left, c .before .before .if1 .taken, ← (c .before .unmarked .ensures), ← (c .before .before .before .passes .ensures)))
     (λ c. simp (c .if1 .left, ← (c .before .passes .ensures))))

@@ -1,13 +1,11 @@
 use mathlib.Core.Path.{refl}
 use borrow.Author.Tests.{lt-ltb, le-ltb, le-leb, lt-leb, eq-eqb, ne-eqb}
-use Rattle.rules.specs.Service.{reportEnded, endingOf, reportJudged}
-use Rattle.rules.specs.Delivery.{reportDelivered, reportHeard, withFlags, withMessage}
-use Rattle.rules.specs.Slots.{delivers}
+use Rattle.judging.specs.Ordinary.{reportOf}
 use Rattle.judging.proofs.report_after.Statement.{statement}
 use Rattle.judging.proofs.report_after.Tie as tie
 
 pub report-after-spec : {M : Type 1} → statement M
-unfolding reportEnded endingOf reportJudged reportDelivered reportHeard withFlags withMessage delivers
+unfolding reportOf
 report-after-spec =
     tie.close (tie.spec
     (λ c κs. tt)

@@ -1,12 +1,16 @@
-use mathlib.Core.Path.{_≡_, refl, sym, _∙_}
+use mathlib.Core.Path.{_≡_, refl, sym, _∙_, ap}
+use Rattle.rules.specs.Slots.{memoryJudged, coreJudged, reportAfter, ending, serviceJudged}
+use Rattle.rules.specs.Service.{withEffort}
+use Rattle.judging.specs.Ordinary.{memoryAfter, coreAfter, reportOf}
 use Rattle.judging.proofs.sample_judged.Statement.{statement}
 use Rattle.judging.proofs.sample_judged.Tie as tie
 
 pub sample-judged-spec : {M : Type 1} → statement M
+unfolding memoryAfter coreAfter reportOf memoryJudged coreJudged reportAfter ending serviceJudged withEffort
 sample-judged-spec =
     tie.close (tie.spec
     (λ c κs. tt)
-    (λ c κs. sym (c .before .before .drives-frame .ensures) ∙ c .before .if1 .taken)
-    (λ c. (c .own-slot .ensures .0, c .own-slot .ensures .1))
-    (λ c κs. sym (c .before .before .drives-frame .ensures) ∙ c .before .if1 .left)
-    (λ c. (c .other-slot .ensures .0, c .other-slot .ensures .1)))
+    (λ c κs. tt)
+    (λ c κs. tt)
+    (λ c κs. tt)
+    (λ c. (c .before .before .before .before .before .take-effect .ensures .0 ∙ rw (c .before .before .before .before .before .before .before .before .before .judge .ensures .0, c .before .before .before .before .before .before .before .before .before .judge .ensures .1 .0, c .before .before .before .before .before .before .before .before .before .judge .ensures .1 .1), rw (c .reception-judged .ensures, c .before .before .line-after .ensures, c .before .before .before .before .before .take-effect .ensures .1 .0, c .before .before .before .before .before .take-effect .ensures .1 .1, c .before .before .before .before .before .take-effect .ensures .0, c .before .before .before .before .before .before .before .before .before .judge .ensures .0, c .before .before .before .before .before .before .before .before .before .judge .ensures .1 .0, c .before .before .before .before .before .before .before .before .before .judge .ensures .1 .1))))

@@ -2,15 +2,14 @@ use borrow.Author.Needs.{needs}
 use mathlib.Core.Path.{refl}
 use borrow.Author.Tests.{lt-ltb, le-ltb, le-leb, lt-leb, eq-eqb, ne-eqb}
 use Rattle.rules.specs.Answers.{answerLent, refusedBy, valueOf, number}
-use Rattle.rules.specs.Run.{answered, accept}
+use Rattle.rules.specs.Run.{accept}
 use Rattle.slots.proofs.answered.Statement.{statement}
 use Rattle.slots.proofs.answered.Tie as tie
 
 pub answered-spec : {M : Type 1} → statement M
-unfolding answerLent refusedBy valueOf number answered accept
+unfolding answerLent refusedBy valueOf number accept
 answered-spec =
     tie.close (tie.spec
-    (λ c κs. tt)
     (λ c. search needs)
     (λ c κs. tt)
-    (λ c. simp (← (c .transmitted .ensures), ← (c .before .before .drives .ensures))))
+    (λ c. simp (← (c .transmitted .ensures))))

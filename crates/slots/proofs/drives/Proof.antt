@@ -1,12 +1,12 @@
 use borrow.Author.Needs.{needs}
 use mathlib.Core.Path.{refl}
 use borrow.Author.Tests.{lt-ltb, le-ltb, le-leb, lt-leb, eq-eqb, ne-eqb}
-use Rattle.rules.specs.Slots.{drives, drivesAs}
+use Rattle.slots.specs.Follow.{driven, drivenAs}
 use Rattle.slots.proofs.drives.Statement.{statement}
 use Rattle.slots.proofs.drives.Tie as tie
 
 pub drives-spec : {M : Type 1} → statement M
-unfolding drives drivesAs
+unfolding driven drivenAs
 drives-spec =
     tie.close (tie.spec
     (λ c κs. tt)

@@ -1,0 +1,15 @@
+use mathlib.Core.Path.{_≡_, refl, sym, _∙_, ap}
+use Rattle.judging.proofs.Ways.{memory-kept, report-kept, service-kept}
+use Rattle.judging.proofs.take_effect.Statement.{statement}
+use Rattle.judging.proofs.take_effect.Tie as tie
+
+pub take-effect-spec : {M : Type 1} → statement M
+take-effect-spec =
+    tie.close (tie.spec
+    (λ c κs. tt)
+    (λ c κs. tt)
+    (λ c. (memory-kept _ _ _ _ (c .before .before .before .ending-of .ensures) (sym (c .before .before .ordinary .ensures) ∙ c .before .if1 .taken) _ _ _, (report-kept _ _ _ _ (c .before .before .before .ending-of .ensures) (sym (c .before .before .ordinary .ensures) ∙ c .before .if1 .taken) _, service-kept _ _ _ _ (c .before .before .before .ending-of .ensures) (sym (c .before .before .ordinary .ensures) ∙ c .before .if1 .taken))))
+    (λ c κs. tt)
+    (λ c κs. tt)
+    (λ c κs. tt)
+    (λ c. (rw (c .before .before .judge-memory .ensures, c .before .before .before .before .before .before .ending-of .ensures), (c .before .report-after .ensures, rw (c .settled .ensures, c .before .before .before .before .before .before .ending-of .ensures)))))
