@@ -7,6 +7,7 @@ use lib.Bits.{and-zero-r}
 use lib.ListN.{take}
 use Rattle.line.specs.Frame.{slots}
 use Rattle.rules.specs.Channels.{base, matches, lowest}
+use Rattle.rules.specs.SlipRuns as kept
 use Rattle.rules.specs.Lowest.{found}
 use Rattle.rules.specs.Masks as masks
 use Rattle.rules.specs.Masks.{bitAt}
@@ -22,10 +23,11 @@ use Rattle.rules.specs.Delivered.{noLog, Delivered}
 use Rattle.rules.specs.Deliver.{delivery}
 use Rattle.rules.specs.Reach.{never-six, never-refused-six, refused-same, refused-value}
 use Rattle.rules.specs.Examples as examples
-use Rattle.rules.specs.Examples.{Counts, seenOver, setUp, ones, levels, echoed, overdriven}
+use Rattle.rules.specs.Examples.{Counts, seenOver, setUp, ones, levels, sent, echoed, overdriven}
 use Rattle.rules.specs.DeliverExamples as taken
 use Rattle.rules.specs.DeliverExamples.{ran, listening, asking, Stored}
 use Rattle.rules.specs.declared.Choice.the-variants.{Lowest}
+use Rattle.rules.specs.declared.Mode.the-variants.{Active}
 use Rattle.rules.specs.declared.Winner.{Winner}
 use Rattle.rules.specs.declared.Controller.{Controller}
 use Rattle.rules.specs.declared.Event.{Event}
@@ -75,9 +77,14 @@ pub record Runs : Type 0 where
   pub lost-twice : Counts (seenOver fresh none (setUp ++ (ones 12 ++ (overdriven ++ (ones 12 ++ (overdriven ++ (ones 12 ++ echoed)))))) (Slot 1)) 2 0 82
   pub join : Counts (seenOver fresh none (setUp ++ (Write 0x01 0x22 ∷ (ones 12 ++ echoed))) (Slot 1)) 0 0 50
   pub abort : Counts (seenOver fresh none (setUp ++ (ones 12 ++ (Slot 0 ∷ Slot 0 ∷ Slot 0 ∷ Write 0x13 0x0C ∷ []))) (Slot 1)) 0 1 4
+  -- tag and R written behind the choice do not touch the service; the slot of a loss counts; a refused slot leaves the mode
+  pub frame-kept : drives (ran fresh (setUp ++ (ones 5 ++ (Write 0x10 0x02 ∷ (ones 7 ++ levels (take 10 (slots sent)))))) .core) ≡ 1
+  pub setting-kept : ran fresh (setUp ++ (ones 5 ++ (Write 0x01 0x03 ∷ (ones 7 ++ (Slot 1 ∷ []))))) .core .report .flags .te ≡ false
+  pub loss-counted : ran fresh (setUp ++ (ones 12 ++ overdriven)) .core .service .effort .counters .slots .0 ≡ 11
+  pub refused : (step (ran fresh setUp) (Slot 9) .next) .core .activity .mode ≡ Active
 
 pub runs : Runs
-runs = record { success = examples.success; exhausted = examples.exhausted; lost-twice = examples.lost-twice; join = examples.join; abort = examples.abort }
+runs = record { success = examples.success; exhausted = examples.exhausted; lost-twice = examples.lost-twice; join = examples.join; abort = examples.abort; frame-kept = kept.frame-kept; setting-kept = kept.setting-kept; loss-counted = kept.loss-counted; refused = kept.refused }
 
 pub record Marked : Type 0 where
   pub p6 : base 13 ≡ 0x78

@@ -21,6 +21,9 @@ pub mod Run
 pub mod Answers
 pub mod Tally
 pub mod Promise
+pub mod Examples
+pub mod DeliverExamples
+pub mod SlipRuns
 pub mod Lowest
 pub mod Masks
 pub mod Frames
@@ -40,8 +43,6 @@ pub mod OwnFrame
 pub mod Logged
 pub mod Logs
 pub mod Deliver
-pub mod Examples
-pub mod DeliverExamples
 pub mod Own
 pub mod OwnProof
 pub mod Interrupts
