@@ -1,9 +1,11 @@
 // The control registers (01, Memory map; 000, Control and Status Registers).
 // 0x00, 0x01, 0x02 and 0x0A stand in the memory map. 0x04 to 0x07 and 0x09 are kept as bools and numbers; their byte is made when it is read.
 ghost use mathlib.Core.Path.{_≡_};
+ghost use mathlib.Core.Bool.{true, false};
 ghost use Rattle.rules.specs.Registers as rule;
 ghost use Rattle.rules.specs.Mailbox as memory;
 ghost use Rattle.registers.specs.Command as map;
+ghost use Rattle.registers.specs.Reserved as reserved;
 use rules::Flags;
 use rules::Report;
 use rules::Retries;
@@ -126,6 +128,28 @@ impl Map {
         true
     }
 
+    // The bits of a register that document 000 reserves.
+    pub fn reserved_bits(address: usize) -> u8
+        ensures { λ r. ⌜ r ≡ reserved.reservedBits address ⌝ }
+    {
+        if address == Map::LINE_CONTROL {
+            return Map::LINE_CONTROL_RESERVED;
+        }
+        if address == Map::TRANSMIT_CONTROL {
+            return Map::TRANSMIT_CONTROL_FIXED;
+        }
+        if address == Map::COMMAND {
+            return Map::COMMAND_FIXED;
+        }
+        if address == Map::INTERRUPT_ENABLE {
+            return Map::INTERRUPT_ENABLE_RESERVED;
+        }
+        if address == Map::INTERRUPT_RESET {
+            return Map::INTERRUPT_RESET_RESERVED;
+        }
+        0
+    }
+
     // 0x00: IVRX.
     fn inverts_receive(control: u8) -> bool
         ensures { λ r. ⌜ r ≡ rule.invertsReceive control ⌝ }
@@ -216,6 +240,13 @@ impl Map {
                 rnok: Map::INTERRUPT_STATUS_RESET % 2 == 1,
             },
         }
+    }
+
+    // 0x04 after a reset: idle, no frame.
+    pub fn reset_line_status() -> u8
+        ensures { λ r. ⌜ r ≡ rule.lineStatus false true false false ⌝ }
+    {
+        Map::LINE_STATUS_RESET
     }
 }
 
