@@ -8,4 +8,4 @@ winner-for-spec =
     tie.close (tie.spec
     (λ c κs. tt)
     (λ c κs. tt)
-    (λ c. simp (← (c .won .ensures), ← (c .before .lowest-listening .ensures))))
+    (λ c. rw (c .won .ensures, c .before .lowest-listening .ensures)))

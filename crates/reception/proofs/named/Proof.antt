@@ -10,4 +10,4 @@ named-spec =
     (λ c. search needs)
     (λ c. search needs)
     (λ c κs. tt)
-    (λ c. simp (← (c .winner-for .ensures))))
+    (λ c. rw (c .winner-for .ensures)))
