@@ -1,7 +1,8 @@
 // An attempt to send: its judgement slot by slot, and what it spends (01, Sending).
 ghost use mathlib.Core.Path.{_≡_};
-ghost use Prim.Native.Nat.{_<_};
+ghost use Prim.Native.Nat.{_+_, _<_};
 ghost use Rattle.rules.specs.Attempt as rule;
+ghost use Rattle.rules.specs.declared.Stage.the-variants as stages;
 ghost use Rattle.attempt.specs.Following as place;
 use line::Half;
 use line::Part;
@@ -184,6 +185,26 @@ fn error_spent(c: Counters) -> Counters
     t
 }
 
+// The attempt goes on to its next slot.
+fn sent_on(e: Effort) -> Effort
+    requires { ⌜ e .progress .at + 1 < 65536 ⌝ }
+    ensures { λ r. ⌜ r ≡ rule.withProgress e (rule.atStage stages.Sending (e .progress .at + 1)) (rule.slotSpent (e .counters)) ⌝ }
+{
+    let c = e.counters;
+    with_progress(
+        e,
+        stage::at_stage(Stage::Sending, e.progress.at + 1),
+        slot_spent(c),
+    )
+}
+
+// The attempt has ended: the service waits again.
+fn waiting(e: Effort, c: Counters) -> Effort
+    ensures { λ r. ⌜ r ≡ rule.withProgress e (rule.atStage stages.Waiting 0) c ⌝ }
+{
+    with_progress(e, stage::at_stage(Stage::Waiting, 0), c)
+}
+
 // The effort after a sample.
 fn advance(w: Verdict, e: Effort) -> Effort
     requires { ⌜ place.following w (e .progress .at) < 65536 ⌝ }
@@ -192,14 +213,10 @@ fn advance(w: Verdict, e: Effort) -> Effort
     let c = e.counters;
     match w {
         Verdict::Unjudged => e,
-        Verdict::Goes => with_progress(
-            e,
-            stage::at_stage(Stage::Sending, e.progress.at + 1),
-            slot_spent(c),
-        ),
-        Verdict::Lost => with_progress(e, stage::at_stage(Stage::Waiting, 0), lost_spent(c)),
-        Verdict::Failed(_) => with_progress(e, stage::at_stage(Stage::Waiting, 0), error_spent(c)),
-        Verdict::Done => with_progress(e, stage::at_stage(Stage::Waiting, 0), slot_spent(c)),
+        Verdict::Goes => sent_on(e),
+        Verdict::Lost => waiting(e, lost_spent(c)),
+        Verdict::Failed(_) => waiting(e, error_spent(c)),
+        Verdict::Done => waiting(e, slot_spent(c)),
     }
 }
 
