@@ -9,4 +9,4 @@ interrupt-spec =
     tie.close (tie.spec
     (λ c. search needs)
     (λ c κs. tt)
-    (λ c. simp (← (c .asserted .ensures))))
+    (λ c. c .asserted .ensures))

@@ -8,4 +8,4 @@ transmitted-spec =
     tie.close (tie.spec
     (λ c κs. tt)
     (λ c κs. tt)
-    (λ c. simp (← (c .inverted .ensures), ← (c .before .inverts-transmit .ensures))))
+    (λ c. rw (c .inverted .ensures, c .before .inverts-transmit .ensures)))

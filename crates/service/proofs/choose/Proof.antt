@@ -8,4 +8,4 @@ choose-spec =
     tie.close (tie.spec
     (λ c κs. tt)
     (λ c κs. tt)
-    (λ c. simp (← (c .choice-of .ensures), ← (c .before .lowest-ready .ensures))))
+    (λ c. rw (c .choice-of .ensures, c .before .lowest-ready .ensures)))
