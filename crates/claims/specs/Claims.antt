@@ -3,6 +3,7 @@
 --   controller: each call's answer is `step` of its event, for every controller, in range or not (crates/controller/src/lib.rt); the same over a lent map (crates/host, crates/slots)
 --   codec: `encoded`, `encodedRoom` (crates/encoder/src/lib.rt); `decoded`, `decodedRoom` of `reading` (crates/decoder/src/lib.rt)
 --   session: `session`, `eventAt` (crates/session/src/lib.rt); numbers: `number` (crates/number/src/lib.rt)
+--   listing: `played`, `playedRoom` of `listingOf`, and `first_lines` (crates/player/src/lib.rt); for C: crates/frapmast/src/lib.rt
 use Prim.Native.Nat.{ℕ, _+_, _*_, _%_, _≤_, _<_}
 use mathlib.Core.Bool.{Bool, true, false}
 use mathlib.Core.List.{List, [], _∷_, _++_}
@@ -140,7 +141,7 @@ pub record Storing : Type 0 where
   pub map-long : (es : List Event) → length (after fresh es .memory) ≡ 256
 
 pub record Receiving : Type 0 where
-  -- "a valid frame that an active controller takes from another module": in each of its slots what the samples decode to is delivered, and nothing else is;
+  -- "a valid frame that an active controller takes from another module": in the slot in which its samples decode to a frame that frame is delivered, and in no other does a mailbox byte change;
   -- a fault is heard only where they can decode to no valid frame (specs/Decoded.antt)
   pub delivered : (es : List Event) → Decoded fresh noLog es
   -- the receiver begun by a dominant slot takes a slot list exactly if it decodes to a valid frame (specs/Agree.antt)

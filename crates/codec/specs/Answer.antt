@@ -1,7 +1,5 @@
 -- What encoding and decoding answer (01, Numbers refused).
---   number       == the paper's number of a refusal
---   encodedSize  == the number of slots, 0 where refused;  encodedNumber == the refusal's number, 0 where accepted
---   Values       == the number and the values of a decoded answer: "Each returns its number and zero elsewhere"
+--   number       == 01's number of a refusal
 --   laid         == what is answered, laid over lent room: "Lent room past an answer keeps its bytes"
 use Prim.Native.Nat.{ℕ}
 use mathlib.Core.Bool.{Bool, true, false}

@@ -1,4 +1,4 @@
-// Frames to slots and slots to frames, one slot a byte.
+// What encoding and decoding answer, and the claims on them; the code is in encoder and decoder. A slot is a byte.
 ghost use mathlib.Core.Path.{_≡_};
 ghost use Prim.Native.Nat.{ℕ};
 ghost use Rattle.codec.specs.Answer as answer;
@@ -40,7 +40,7 @@ pub enum Decoded {
     Refused(Refusal),
 }
 
-// The paper's number of a refusal.
+// 01's number of a refusal.
 pub fn number(refusal: Refusal) -> u8
     ensures { λ r. ⌜ r ≡ answer.number refusal ⌝ }
 {

@@ -207,6 +207,7 @@ fn byte_written(m: &mut [u8; 256], k: Core, address: usize, v: u8) -> Core
     stopped_core(core_written(k, address, v), s)
 }
 
+// Reset, by pin or GRES.
 pub fn reset(m: &mut [u8; 256]) -> Core
     ensures map { λ r. ⌜ now (m .exit) ≡ mailbox.resetMemory (now (m .entry)) ⌝ }
     ensures core { λ r. ⌜ r ≡ core.resetCore ⌝ }
@@ -215,6 +216,7 @@ pub fn reset(m: &mut [u8; 256]) -> Core
     state::reset_core()
 }
 
+// An accepted write: GRES, else SLEEP, else the byte and what it asks.
 pub fn written(m: &mut [u8; 256], k: Core, address: usize, v: u8) -> Core
     ensures { λ r. ⌜ answers.controller (now (m .exit)) r ≡ rule.written (answers.controller (now (m .entry)) k) address v ⌝ }
 {

@@ -70,7 +70,7 @@ pub fn interrupt(c: Controller) -> bool
     status::asserted(c.core.report.flags, c.memory[Map::INTERRUPT_ENABLE])
 }
 
-// The paper's number of a refusal.
+// 01's number of a refusal.
 pub fn number(why: Refusal) -> u8
     ensures { λ r. ⌜ r ≡ answers.number why ⌝ }
 {

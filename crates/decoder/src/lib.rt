@@ -3,7 +3,6 @@ use codec::Decoded;
 use codec::Head;
 use codec::Refusal;
 ghost use mathlib.Core.Path.{_≡_};
-ghost use mathlib.Core.List.{[]};
 ghost use Prim.Native.Nat.{_+_, _*_, _/_, _%_, _≤_};
 ghost use lib.ListN.{length, drop};
 ghost use lib.Seq.{sets};

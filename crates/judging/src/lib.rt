@@ -1,6 +1,6 @@
 // What a sample does: judged with its effects on memory map, registers, line, frame and service (01, Receiving and Sending).
 ghost use mathlib.Core.Path.{_≡_};
-ghost use mathlib.Core.Bool.{true, false};
+ghost use mathlib.Core.Bool.{false};
 ghost use Rattle.rules.specs.Slots as rule;
 ghost use Rattle.rules.specs.Attempt as sending;
 ghost use Rattle.rules.specs.Hearing as hearing_rule;

@@ -8,7 +8,7 @@ ghost use Rattle.listing.specs.Laws.{Laid};
 use session::Event;
 
 // No line is longer.
-pub const LONGEST: usize = 80;
+const LONGEST: usize = 80;
 
 // ---- texts and numerals: each is laid at a place, and the place behind it is the answer
 
@@ -221,7 +221,7 @@ pub fn put_end(room: &mut [u8], at: usize, count: u16) -> usize
     at
 }
 
-// `bad 31 at P`.
+// `bad N at P`.
 pub fn put_bad(room: &mut [u8], at: usize, number: u8, place: usize) -> usize
     ensures place { λ r. ⌜ r ≡ rule.linePlace (length (now (room .entry))) at (rule.badLine number place) ⌝ }
     ensures room { λ r. ⌜ now (room .exit) ≡ rule.lineRoom (now (room .entry)) at (rule.badLine number place) ⌝ }

@@ -7,7 +7,7 @@ use rules::Channel;
 use rules::Choice;
 use rules::Winner;
 
-// ---- the bits that a match and a choice look at
+// ---- the bits of a channel that are read here
 
 // The twelve bits of a tag, a mask or an identifier.
 fn twelve(high: u8, low: u8) -> u16

@@ -31,9 +31,9 @@ pub enum Played {
 }
 
 // The controller but for its map, and the place in the room, after an event.
-pub struct Step {
-    pub core: Core,
-    pub place: usize,
+struct Step {
+    core: Core,
+    place: usize,
 }
 
 // Room for any listing: 4,096 events, a line before them and one behind.

@@ -183,6 +183,8 @@ pub fn followed(r: Reception, v: u8) -> Reception
     }
 }
 
+// ---- who takes it, and its length
+
 // The frame with its winner, taken in the last command slot and held (house).
 pub fn named(r: Reception, m: &[u8; 256]) -> Reception
     ensures { λ t. ⌜ t ≡ rule.named r (now (m .entry)) ⌝ }

@@ -1,5 +1,5 @@
 // The control registers (01, Memory map; 000, Control and Status Registers).
-// 0x00, 0x01, 0x02 and 0x0A stand in the memory map. 0x04 to 0x07 and 0x09 are kept as bools and numbers; their byte is made when it is read.
+// 0x00, 0x01, 0x02 and 0x0A stand in the memory map. 0x05 to 0x07 and 0x09 are kept as numbers and bools, 0x04 is not kept; crate status makes their bytes.
 ghost use mathlib.Core.Path.{_≡_};
 ghost use mathlib.Core.Bool.{true, false};
 ghost use Rattle.rules.specs.Registers as rule;

@@ -1,4 +1,4 @@
-// What a sample and the end of a service do to 0x05, 0x06, 0x07 and 0x09 (01, Receiving and Sending).
+// What a sample, the choice and the end of a service do to 0x05, 0x06, 0x07 and 0x09 (01, Receiving and Sending).
 ghost use mathlib.Core.Path.{_≡_};
 ghost use Rattle.rules.specs.Delivery as delivery;
 ghost use Rattle.rules.specs.Service as rule;
@@ -13,7 +13,7 @@ use rules::Retries;
 use rules::Service;
 use rules::Verdict;
 
-// ---- a frame of another module
+// ---- 0x07, and a frame of another module
 
 // Each error replaces 0x07 (house).
 fn with_error(x: Report, code: u8) -> Report

@@ -1,5 +1,5 @@
 -- What the calls answer (01, Numbers refused).
---   number == the paper's number of a refusal        answerOf == the number or 0, the value or 0, and the next controller
+--   number == 01's number of a refusal        answerOf == the number or 0, the value or 0, and the next controller
 --   controller == a lent memory map and the rest of the state        answerLent == the answer of a call that is lent the map, as it left it
 use Prim.Native.Nat.{ℕ}
 use mathlib.Core.List.{List}

@@ -1,4 +1,4 @@
--- What is claimed of the controller's rules: refusals, matching, sending, receiving, closed runs, and the marked cases P6 to P9 and P12 (01, Marked cases).
+-- What is claimed of the controller's rules: refusals, matching, sending, receiving, closed runs, the marked cases P6 to P9 and P12 (01, Marked cases), and the length M_L 3.
 use Prim.Native.Nat.{ℕ, _≤_, _<_}
 use mathlib.Core.Bool.{Bool, true, false}
 use mathlib.Core.List.{List, [], _∷_, _++_}
@@ -77,7 +77,7 @@ pub record Runs : Type 0 where
   pub lost-twice : Counts (seenOver fresh none (setUp ++ (ones 12 ++ (overdriven ++ (ones 12 ++ (overdriven ++ (ones 12 ++ echoed)))))) (Slot 1)) 2 0 82
   pub join : Counts (seenOver fresh none (setUp ++ (Write 0x01 0x22 ∷ (ones 12 ++ echoed))) (Slot 1)) 0 0 50
   pub abort : Counts (seenOver fresh none (setUp ++ (ones 12 ++ (Slot 0 ∷ Slot 0 ∷ Slot 0 ∷ Write 0x13 0x0C ∷ []))) (Slot 1)) 0 1 4
-  -- tag and R written behind the choice do not touch the service; the slot of a loss counts; a refused slot leaves the mode
+  -- tag and R written after the choice do not touch the service; the slot of a loss counts; a refused slot leaves the mode
   pub frame-kept : drives (ran fresh (setUp ++ (ones 5 ++ (Write 0x10 0x02 ∷ (ones 7 ++ levels (take 10 (slots sent)))))) .core) ≡ 1
   pub setting-kept : ran fresh (setUp ++ (ones 5 ++ (Write 0x01 0x03 ∷ (ones 7 ++ (Slot 1 ∷ []))))) .core .report .flags .te ≡ false
   pub loss-counted : ran fresh (setUp ++ (ones 12 ++ overdriven)) .core .service .effort .counters .slots .0 ≡ 11

@@ -1,4 +1,4 @@
--- Closed runs, computed: the tally is not empty talk.
+-- Closed runs, computed: what the tally counts.
 --   seenOver == the tally once the sample of a run's last event is judged
 use Rattle.line.specs.Bits as lbits
 use Rattle.line.specs.LineCode as llinecode

@@ -1,5 +1,5 @@
 -- Own.antt over every list of events.
---   attempt-judged == a level of an attempt is always judged        slot-map == the map after a slot
+--   attempt-judged == a level of an attempt is always judged        slot-cases, slot-sampled == the controller after a slot
 --   own-after, own-every == the claim for every reached controller, and for every list of events
 use Prim.Native.Nat.{ℕ, zero, suc, _+_, _-_, _*_, _/_, _%_, _≤_, _<_}
 use mathlib.Core.Bool.{Bool, true, false, false≢true}

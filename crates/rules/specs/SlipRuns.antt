@@ -30,12 +30,12 @@ pub refused : (step (ran fresh setUp) (Slot 9) .next) .core .activity .mode ≡ 
 unfolding ran setUp step
 refused = refl
 
--- the tag is written anew behind the choice: the first slot of the identifier is still that of 0xF23
+-- the tag is written anew after the choice: the first slot of the identifier is still that of 0xF23
 pub frame-kept : drives (ran fresh (setUp ++ (ones 5 ++ (Write 0x10 0x02 ∷ (ones 7 ++ levels (take 10 (slots sent)))))) .core) ≡ 1
 unfolding ran setUp ones levels sent drives
 frame-kept = refl
 
--- R is set to 0 behind the choice: the first error is still one of three
+-- R is set to 0 after the choice: the first error is still one of three
 pub setting-kept : ran fresh (setUp ++ (ones 5 ++ (Write 0x01 0x03 ∷ (ones 7 ++ (Slot 1 ∷ []))))) .core .report .flags .te ≡ false
 unfolding ran setUp ones
 setting-kept = refl

@@ -2,7 +2,7 @@
 -- It is a record of its own. Beside the events and the driven levels it looks at what the rules say of the memory map, the mode, the line and the frame under way; never at
 -- anything that the controller records about sending. Its numbers have no largest value.
 --   Stand == where a service stands: away (none), between attempts, opening (the first level of an attempt is answered), inside (the levels driven so far)
---   verdict == what a driven and a sampled level are for the attempt        counted, ended, chosenT, startedT == a slot        asked == a host write
+--   verdict == what a driven and a sampled level are for the attempt        countedT, endedT, chooseT, startT == a slot        askedT == a host write
 use Prim.Native.Nat.{ℕ, _+_, _-_, _*_, _/_, _%_}
 use mathlib.Core.Bool.{Bool, true, false}
 use mathlib.Core.List.{List, [], _∷_, _++_}

@@ -290,7 +290,7 @@ pub fn run_claims()
     ensures { λ _. ⌜ claims.Runs ⌝ }
 {}
 
-// Holds the marked cases P6 to P9 and P12; it does nothing.
+// Holds the marked cases P6 to P9 and P12, and the length M_L 3; it does nothing.
 pub fn marked_cases()
     ensures { λ _. ⌜ claims.Marked ⌝ }
 {}

@@ -1,5 +1,5 @@
 -- A slot by its parts.
---   begins == what lets a choice or a start follow        driven == the level for the next slot, from the attempt, the frame under way and the frame sent
+--   begins == what lets an idle, a choice or a start follow        driven == the level for the next slot, from the attempt, the frame under way and the frame sent
 use Prim.Native.Nat.{ℕ}
 use mathlib.Core.Bool.{Bool, true}
 use Rattle.line.specs.Bits.{pick}

@@ -22,7 +22,7 @@ pub fn is_active(a: Activity) -> bool
     match mode {
         Mode::Idle => false,
         Mode::Active => true,
-        Mode::Asleep => false, // it takes no slot
+        Mode::Asleep => false, // a slot changes nothing
     }
 }
 

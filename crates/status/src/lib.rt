@@ -1,4 +1,4 @@
-// The registers that the controller itself writes, as bytes; the interrupt line (01, Memory map; 000, Control and Status Registers).
+// The registers that the controller itself writes, as bytes; a write to 0x0B, and the interrupt line (01, Memory map; 000, Control and Status Registers).
 ghost use mathlib.Core.Path.{_≡_};
 ghost use Prim.Native.Nat.{_≤_};
 ghost use Rattle.rules.specs.Registers as rule;
