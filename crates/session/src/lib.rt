@@ -181,20 +181,20 @@ pub fn end_at(s: &[u8], at: usize) -> End
 }
 
 // The reading place at the first byte.
-pub fn open<'a>(src: &'a [u8]) -> Session<'a>
+fn open<'a>(src: &'a [u8]) -> Session<'a>
     ensures { λ r. ⌜ (r .src ≡ src .entry) × (r .at ≡ 0) ⌝ }
 {
     Session { src, at: 0 }
 }
 
-pub fn moved<'a>(r: Session<'a>, at: usize) -> Session<'a>
+fn moved<'a>(r: Session<'a>, at: usize) -> Session<'a>
     ensures { λ q. ⌜ (q .src ≡ r .entry .src) × (q .at ≡ at) ⌝ }
 {
     Session { src: r.src, at }
 }
 
 // The event at the reading place.
-pub fn next<'a>(r: Session<'a>) -> Item
+fn next<'a>(r: Session<'a>) -> Item
     ensures { λ s. ⌜ s ≡ rule.eventAt (now (r .entry .src)) (r .entry .at) ⌝ }
 {
     event_at(r.src, r.at)
