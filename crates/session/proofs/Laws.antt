@@ -3,7 +3,6 @@ use Prim.Native.Nat.{ℕ, zero, suc, _+_, _-_, _<_, _≤_, min}
 use mathlib.Core.List.{List, [], _∷_}
 use mathlib.Core.Path.{_≡_, refl, ap, sym, _∙_}
 use native.Mathlib.Omega.{arith}
-use native.Mathlib.Nat.{add-zero, zero-add, sub-zero}
 use lib.Dec.{eqb}
 use borrow.Author.Tests.{lt-ltb}
 use lib.ListN.{length, getD, drop, take, length-drop, drop-of-length-le}
@@ -13,13 +12,7 @@ use Rattle.number.specs.Laws.{rest-fits, is-number, to-end}
 use Rattle.session.specs.declared.Fault.the-variants.{Cut}
 use Rattle.session.specs.declared.Number.{Number}
 use Rattle.session.specs.declared.Number.the-variants.{Value, Bad}
-use Rattle.session.specs.declared.Fault.{Fault}
-use Rattle.session.specs.declared.Event.{Event}
-use Rattle.session.specs.declared.Item.the-variants.{Next, Bad as BadItem}
-use Rattle.session.specs.declared.Outcome.{Outcome}
-use Rattle.session.specs.declared.Outcome.the-variants.{Broken}
-use Rattle.session.specs.Reading.{refusal, placed, numberAt, eventAt, endAt, Events, eventsAt, ended, outcome}
-use Rattle.session.specs.Walk.{none-due, stops, goes-on}
+use Rattle.session.specs.Reading.{refusal, placed, numberAt}
 
 pub past-end : (s : List ℕ) (at : ℕ) → length s ≤ at → Bad Cut (length s) ≡ numberAt s at
 unfolding numberAt placed number groups refusal
@@ -66,26 +59,3 @@ module _ (s : List ℕ) (at : ℕ) (h : at < length s) {t : List ℕ} {v f : ℕ
       let e : f ≡ faultOf (number (drop at s)) = rw (to-end at s) at (a .1 .1) in
       let m : min at (length s) ≡ at = omega arith in
       rw (is-refused (number (drop at s)) (λ (q : faultOf (number (drop at s)) ≡ 0). z (e ∙ q)), m, ← n, e)
-
--- the outcome where n events were read before these
-abbrev pub after : ℕ → Events → Outcome
-after n r = ended (n + length (r .events)) (r .end)
-
-module _ (s : List ℕ) (count n at : ℕ) where
-  pub first-due : n ≡ 0 → outcome (eventsAt count s at) ≡ after n (eventsAt (count - n) s at)
-  unfolding outcome
-  first-due z = rw (z, sub-zero, zero-add)
-
-  pub stopped : {f : Fault} {p : ℕ} → n < count → eventAt s at ≡ BadItem f p → after n (eventsAt (count - n) s at) ≡ Broken n f p
-  unfolding ended
-  stopped h e = let d : count - n ≡ suc (count - (n + 1)) = omega arith in rw (d, stops s at (count - (n + 1)) e, add-zero)
-
-  pub went-on : {e : Event} {next : ℕ} → n < count → eventAt s at ≡ Next e next
-      → after n (eventsAt (count - n) s at) ≡ after (n + 1) (eventsAt (count - (n + 1)) s next)
-  went-on {next = next} h e =
-      let d : count - n ≡ suc (count - (n + 1)) = omega arith in
-      let l : n + suc (length ((eventsAt (count - (n + 1)) s next) .events)) ≡ n + 1 + length ((eventsAt (count - (n + 1)) s next) .events) = omega arith in
-      rw (d, goes-on s at (count - (n + 1)) e, l)
-
-  pub all-read : count ≤ n → after n (eventsAt (count - n) s at) ≡ ended n (endAt s at)
-  all-read h = let d : count - n ≡ 0 = omega arith in rw (d, none-due s at, add-zero)

@@ -18,8 +18,6 @@ use Rattle.session.specs.declared.Item.{Item}
 use Rattle.session.specs.declared.Item.the-variants.{Next, Bad as BadItem}
 use Rattle.session.specs.declared.End.{End}
 use Rattle.session.specs.declared.End.the-variants.{Clean, Bad as BadEnd}
-use Rattle.session.specs.declared.Outcome.{Outcome}
-use Rattle.session.specs.declared.Outcome.the-variants.{Refused, Whole, Broken}
 
 -- 01, Numbers refused: "30, 31, 32 number cut, not shortest, above 65,535; 33 to 36 version, count above 4,096, kind, bytes left over".
 unfoldable pub faultNumber : Fault → ℕ
@@ -109,15 +107,3 @@ started s (Good count next) = Counted count (eventsAt count s next)
 
 unfoldable pub session : ℕ → List ℕ → Reading
 session most s = started s (headerAt most s 0)
-
--- A reading in short: how many events, and how it ended.
-unfoldable pub ended : ℕ → End → Outcome
-ended n Clean = Whole n
-ended n (BadEnd f p) = Broken n f p
-
-unfoldable pub outcome : Events → Outcome
-outcome r = ended (length (r .events)) (r .end)
-
-unfoldable pub outcomeOf : Reading → Outcome
-outcomeOf (NoHeader f p) = Refused f p
-outcomeOf (Counted count r) = outcome r

@@ -45,13 +45,6 @@ pub enum End {
     Bad(Fault, usize),
 }
 
-// A whole session: its header refused; its count, all read; or the events read, the fault after them and its place.
-pub enum Outcome {
-    Refused(Fault, usize),
-    Whole(u16),
-    Broken(u16, Fault, usize),
-}
-
 // Lent bytes and a reading place.
 pub struct Session<'a> {
     pub src: &'a [u8],
@@ -207,35 +200,7 @@ pub fn event_from(s: &[u8], at: usize) -> Item
     next(moved(open(s), at))
 }
 
-// The whole session.
-pub fn read_all(s: &[u8]) -> Outcome
-    ensures { λ r. ⌜ r ≡ rule.outcomeOf (rule.session rule.longest (now (s .entry))) ⌝ }
-{
-    match header_at(s, 0) {
-        Header::Bad(f, p) => Outcome::Refused(f, p),
-        Header::Good(count, next) => events_from(s, count, next),
-    }
-}
-
-fn events_from(s: &[u8], count: u16, first: usize) -> Outcome
-    ensures { λ r. ⌜ r ≡ rule.outcome (rule.eventsAt count (now (s .entry)) first) ⌝ }
-{
-    let mut at = first;
-    let mut n = 0u16;
-    while n < count {
-        match event_from(s, at) {
-            Item::Bad(f, p) => return Outcome::Broken(n, f, p),
-            Item::Next(_, next) => at = next,
-        }
-        n += 1;
-    }
-    match end_at(s, at) {
-        End::Bad(f, p) => Outcome::Broken(n, f, p),
-        End::Clean => Outcome::Whole(n),
-    }
-}
-
 // Claim: the marked cases of sessions. What holds of every session is stated in crate claims.
-pub fn marked()
+fn marked()
     ensures { λ _. ⌜ Marked ⌝ }
 {}

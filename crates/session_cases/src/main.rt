@@ -1,10 +1,22 @@
 // Reads each session of standard input, a line with its name and its bytes in hexadecimal, and writes how the reading ended.
+ghost use mathlib.Core.Path.{_≡_};
 ghost use Prim.Native.Nat.{_≤_, _<_};
 ghost use lib.ListN.{length};
 ghost use Rattle.io.specs.Counts.{Counts};
+ghost use Rattle.session.specs.Reading as reading;
+ghost use Rattle.session_cases.specs.Summary as rule;
 use libc::STDOUT_FILENO;
+use session::End;
 use session::Fault;
-use session::Outcome;
+use session::Header;
+use session::Item;
+
+// A whole session: its header refused; its count, all read; or the events read, the fault after them and its place.
+enum Outcome {
+    Refused(Fault, usize),
+    Whole(u16),
+    Broken(u16, Fault, usize),
+}
 
 fn main() {
     let mut text = io::buffer();
@@ -86,8 +98,36 @@ fn digit(b: u8) -> u8
     (b % 16 + 9) % 16
 }
 
+// The whole session.
+fn read_all(s: &[u8]) -> Outcome
+    ensures { λ r. ⌜ r ≡ rule.outcomeOf (reading.session reading.longest (now (s .entry))) ⌝ }
+{
+    match session::header_at(s, 0) {
+        Header::Bad(f, p) => Outcome::Refused(f, p),
+        Header::Good(count, next) => events_from(s, count, next),
+    }
+}
+
+fn events_from(s: &[u8], count: u16, first: usize) -> Outcome
+    ensures { λ r. ⌜ r ≡ rule.outcome (reading.eventsAt count (now (s .entry)) first) ⌝ }
+{
+    let mut at = first;
+    let mut n = 0u16;
+    while n < count {
+        match session::event_from(s, at) {
+            Item::Bad(f, p) => return Outcome::Broken(n, f, p),
+            Item::Next(_, next) => at = next,
+        }
+        n += 1;
+    }
+    match session::end_at(s, at) {
+        End::Bad(f, p) => Outcome::Broken(n, f, p),
+        End::Clean => Outcome::Whole(n),
+    }
+}
+
 fn report(s: &[u8]) {
-    match session::read_all(s) {
+    match read_all(s) {
         Outcome::Refused(f, p) => {
             io::write_all(STDOUT_FILENO, b"header: ");
             bad(f, p);

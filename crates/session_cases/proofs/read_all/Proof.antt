@@ -1,7 +1,8 @@
 use borrow.Author.Needs.{needs}
-use Rattle.session.specs.Reading.{session, started, outcomeOf}
-use Rattle.session.proofs.read_all.Statement.{statement}
-use Rattle.session.proofs.read_all.Tie as tie
+use Rattle.session.specs.Reading.{session, started}
+use Rattle.session_cases.specs.Summary.{outcomeOf}
+use Rattle.session_cases.proofs.read_all.Statement.{statement}
+use Rattle.session_cases.proofs.read_all.Tie as tie
 
 pub read-all-spec : {M : Type 1} → statement M
 unfolding session started outcomeOf

@@ -3,10 +3,11 @@ use Prim.Native.Nat.{_≤_, _-_}
 use mathlib.Core.Path.{_≡_, refl, sym, _∙_, ap}
 use native.Mathlib.Omega.{arith}
 use borrow.Author.Needs.{needs}
-use Rattle.session.specs.Reading.{eventsAt, outcome, ended}
-use Rattle.session.proofs.Laws.{after, first-due, stopped, went-on, all-read}
-use Rattle.session.proofs.events_from.Statement.{statement}
-use Rattle.session.proofs.events_from.Tie as tie
+use Rattle.session.specs.Reading.{eventsAt}
+use Rattle.session_cases.specs.Summary.{outcome, ended}
+use Rattle.session_cases.proofs.Laws.{after, first-due, stopped, went-on, all-read}
+use Rattle.session_cases.proofs.events_from.Statement.{statement}
+use Rattle.session_cases.proofs.events_from.Tie as tie
 
 abbrev Inv-loop : tie.InvT-loop
 Inv-loop s count first at₀ n₀ at n = (n ≤ count) × (outcome (eventsAt count s first) ≡ after n (eventsAt (count - n) s at))
