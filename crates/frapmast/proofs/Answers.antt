@@ -11,9 +11,9 @@ use Rattle.codec.specs.declared.Encoded.{Encoded}
 use Rattle.codec.specs.declared.Encoded.the-variants.{Slots, Refused as NotEncoded}
 use Rattle.codec.specs.declared.Decoded.{Decoded}
 use Rattle.codec.specs.declared.Decoded.the-variants.{Accepted, Refused as NotDecoded}
-use Rattle.player.specs.Player.{number as playNumber}
-use Rattle.player.specs.declared.Played.{Played}
-use Rattle.player.specs.declared.Played.the-variants.{Listed, Short}
+use Rattle.bench_record.specs.Record.{number as playNumber}
+use Rattle.bench_record.specs.declared.Played.{Played}
+use Rattle.bench_record.specs.declared.Played.the-variants.{Listed, Short}
 use Rattle.frapmast.specs.Calls.{encodeNumber, slotCount, decodeNumber, flag, head, listingLength}
 
 pub encoded-slots : {a e : Encoded} {n : ℕ} → a ≡ Slots n → a ≡ e → (0 ≡ encodeNumber e) × (n ≡ slotCount e)

@@ -16,9 +16,9 @@ use Rattle.codec.specs.declared.Encoded.{Encoded}
 use Rattle.codec.specs.declared.Encoded.the-variants.{Slots, Refused as NotEncoded}
 use Rattle.codec.specs.declared.Decoded.{Decoded}
 use Rattle.codec.specs.declared.Decoded.the-variants.{Accepted, Refused as NotDecoded}
-use Rattle.player.specs.Player.{listingOf, played, playedRoom}
-use Rattle.player.specs.declared.Played.{Played}
-use Rattle.player.specs.declared.Played.the-variants.{Listed, Short}
+use Rattle.bench_record.specs.Record.{listingOf, played, playedRoom}
+use Rattle.bench_record.specs.declared.Played.{Played}
+use Rattle.bench_record.specs.declared.Played.the-variants.{Listed, Short}
 
 -- ---- a frame to slots
 

@@ -1,11 +1,11 @@
 // Codec and player for C: library/frapmast.h declares these calls and says how they are made.
 ghost use mathlib.Core.Path.{_≡_};
 ghost use Rattle.codec.specs.Encode.{given};
-ghost use Rattle.player.specs.Player as player_rule;
+ghost use Rattle.bench_record.specs.Record as player_rule;
 ghost use Rattle.frapmast.specs.Calls as rule;
+use bench_record::Played;
 use codec::Decoded;
 use codec::Encoded;
-use player::Played;
 
 // The frame's slots, into lent room, and how many; or the refusal's number.
 #[no_mangle]

@@ -4,8 +4,16 @@ ghost use mathlib.Core.List.{_++_};
 ghost use Prim.Native.Nat.{_+_, _%_, _≤_};
 ghost use lib.ListN.{length};
 ghost use Rattle.listing.specs.Listing as rule;
-ghost use Rattle.listing.specs.Laws.{Laid};
+ghost use Rattle.listing.specs.Laws.{Laid, words};
 use session::Event;
+
+// A line: the count of events; an event's number, the event and its answer (the refusal's number or 0, and the value); a fault's number and its place; the end.
+pub enum Line {
+    Count(u16),
+    Answer(u16, Event, u8, u8),
+    Bad(u8, usize),
+    End(u16),
+}
 
 // No line is longer.
 const LONGEST: usize = 80;
@@ -171,6 +179,26 @@ fn put_event(room: &mut [u8], at: usize, e: Event, refused: u8, value: u8) -> us
     }
 }
 
+// A line but for its end.
+fn put_words(room: &mut [u8], at: usize, l: Line) -> usize
+    requires { ⌜ at + 75 ≤ length (now room) ⌝ }
+    ensures { λ r. ⌜ Laid (now (room .entry)) at (words l) (now (room .exit)) r ⌝ }
+    ensures bound { λ r. ⌜ r ≤ at + 75 ⌝ }
+{
+    match l {
+        Line::Count(count) => put_number(room, at, b"events ", count as usize),
+        Line::Answer(index, e, refused, value) => {
+            let p = put_decimal(room, at, index as usize);
+            put_event(room, p, e, refused, value)
+        }
+        Line::Bad(number, place) => {
+            let p = put_number(room, at, b"bad ", number as usize);
+            put_number(room, p, b" at ", place)
+        }
+        Line::End(count) => put_number(room, at, b"end ", count as usize),
+    }
+}
+
 // The end of a line.
 fn put_newline(room: &mut [u8], at: usize) -> usize
     requires { ⌜ at + 1 ≤ length (now room) ⌝ }
@@ -181,7 +209,7 @@ fn put_newline(room: &mut [u8], at: usize) -> usize
     at + 1
 }
 
-// ---- lines: where the longest would not fit, nothing is written and the place stays
+// ---- a line: where the longest would not fit, nothing is written and the place stays
 
 fn holds(room: usize, at: usize) -> bool
     ensures { λ r. ⌜ r ≡ rule.holds room at ⌝ }
@@ -195,56 +223,14 @@ fn holds(room: usize, at: usize) -> bool
     true
 }
 
-// `events N`.
-pub fn put_events(room: &mut [u8], at: usize, count: u16) -> usize
-    ensures place { λ r. ⌜ r ≡ rule.linePlace (length (now (room .entry))) at (rule.eventsLine count) ⌝ }
-    ensures room { λ r. ⌜ now (room .exit) ≡ rule.lineRoom (now (room .entry)) at (rule.eventsLine count) ⌝ }
+pub fn put_line(room: &mut [u8], at: usize, l: Line) -> usize
+    ensures place { λ r. ⌜ r ≡ rule.linePlace (length (now (room .entry))) at (rule.lineOf l) ⌝ }
+    ensures room { λ r. ⌜ now (room .exit) ≡ rule.lineRoom (now (room .entry)) at (rule.lineOf l) ⌝ }
     ensures bound { λ r. ⌜ r ≤ at + rule.longest ⌝ }
 {
     if holds(room.len(), at) {
-        let p = put_number(room, at, b"events ", count as usize);
+        let p = put_words(room, at, l);
         return put_newline(room, p);
-    }
-    at
-}
-
-// `end N`.
-pub fn put_end(room: &mut [u8], at: usize, count: u16) -> usize
-    ensures place { λ r. ⌜ r ≡ rule.linePlace (length (now (room .entry))) at (rule.endLine count) ⌝ }
-    ensures room { λ r. ⌜ now (room .exit) ≡ rule.lineRoom (now (room .entry)) at (rule.endLine count) ⌝ }
-    ensures bound { λ r. ⌜ r ≤ at + rule.longest ⌝ }
-{
-    if holds(room.len(), at) {
-        let p = put_number(room, at, b"end ", count as usize);
-        return put_newline(room, p);
-    }
-    at
-}
-
-// `bad N at P`.
-pub fn put_bad(room: &mut [u8], at: usize, number: u8, place: usize) -> usize
-    ensures place { λ r. ⌜ r ≡ rule.linePlace (length (now (room .entry))) at (rule.badLine number place) ⌝ }
-    ensures room { λ r. ⌜ now (room .exit) ≡ rule.lineRoom (now (room .entry)) at (rule.badLine number place) ⌝ }
-    ensures bound { λ r. ⌜ r ≤ at + rule.longest ⌝ }
-{
-    if holds(room.len(), at) {
-        let p = put_number(room, at, b"bad ", number as usize);
-        let q = put_number(room, p, b" at ", place);
-        return put_newline(room, q);
-    }
-    at
-}
-
-// An event's number, the event and its answer: the refusal's number or 0, and the value.
-pub fn put_line(room: &mut [u8], at: usize, index: u16, e: Event, refused: u8, value: u8) -> usize
-    ensures place { λ r. ⌜ r ≡ rule.linePlace (length (now (room .entry))) at (rule.line index e refused value) ⌝ }
-    ensures room { λ r. ⌜ now (room .exit) ≡ rule.lineRoom (now (room .entry)) at (rule.line index e refused value) ⌝ }
-    ensures bound { λ r. ⌜ r ≤ at + rule.longest ⌝ }
-{
-    if holds(room.len(), at) {
-        let p = put_decimal(room, at, index as usize);
-        let q = put_event(room, p, e, refused, value);
-        return put_newline(room, q);
     }
     at
 }

@@ -1,8 +1,8 @@
 // Plays the session on standard input, its first 65,536 bytes at most, and writes its listing.
 ghost use mathlib.Core.Path.{_≡_};
 ghost use lib.ListN.{length};
+use bench_record::Played;
 use libc::STDOUT_FILENO;
-use player::Played;
 
 fn main() {
     let mut text = io::large_buffer();
@@ -11,10 +11,10 @@ fn main() {
 }
 
 // Room for any listing.
-fn room() -> [u8; 327840]
+fn room() -> [u8; player::ROOM]
     ensures { λ r. ⌜ 327840 ≡ length r ⌝ }
 {
-    [0; 327840]
+    [0; player::ROOM]
 }
 
 fn play(s: &[u8]) {

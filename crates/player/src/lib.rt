@@ -1,21 +1,16 @@
 // The bench player: a session's bytes in, its listing out (01, Session and listing).
 ghost use mathlib.Core.Path.{_≡_};
-ghost use mathlib.Core.List.{List, _++_};
-ghost use Prim.Native.Nat.{ℕ, _+_, _*_, _≤_};
-ghost use lib.ListN.{length, take};
+ghost use Prim.Native.Nat.{_+_, _*_, _≤_};
+ghost use lib.ListN.{length};
 ghost use lib.Seq.{sets};
-ghost use Rattle.number.specs.Number.{Bytes, written};
 ghost use Rattle.session.specs.Reading as reading;
-ghost use Rattle.session.specs.Writing.{eventsBytes, AllFit};
-ghost use Rattle.session.specs.declared.Event.{Event as SessionEvent};
-ghost use Rattle.session.specs.declared.Fault.{Fault as SessionFault};
-ghost use Rattle.session.specs.declared.End.the-variants as ends;
 ghost use Rattle.rules.specs.Run as run;
 ghost use Rattle.rules.specs.Answers as answers;
 ghost use Rattle.listing.specs.Listing as text;
 ghost use Rattle.listing.specs.Laws.{Laid};
-ghost use Rattle.player.specs.Player as rule;
-ghost use Rattle.player.specs.Claims.{BeginsWith};
+ghost use Rattle.bench_record.specs.Record as rule;
+use bench_record::Played;
+use listing::Line;
 use rules::Core;
 use rules::CoreOutcome;
 use rules::Reply;
@@ -23,12 +18,6 @@ use session::End;
 use session::Event;
 use session::Header;
 use session::Item;
-
-// The listing's length, or 13: the room is too short for it.
-pub enum Played {
-    Listed(usize),
-    Short,
-}
 
 // The controller but for its map, and the place in the room, after an event.
 struct Step {
@@ -85,7 +74,11 @@ fn play_event(m: &mut [u8; 256], k: Core, index: u16, e: Event, room: &mut [u8],
     let a = answer(m, k, e);
     let reply = a.reply;
     let core = a.next;
-    let place = listing::put_line(room, at, index, e, refused_by(reply), value_of(reply));
+    let place = listing::put_line(
+        room,
+        at,
+        Line::Answer(index, e, refused_by(reply), value_of(reply)),
+    );
     Step { core, place }
 }
 
@@ -98,8 +91,8 @@ fn put_closing(s: &[u8], from: usize, count: u16, room: &mut [u8], at: usize) ->
     ensures bound { λ r. ⌜ r ≤ at + text.longest ⌝ }
 {
     match session::end_at(s, from) {
-        End::Clean => listing::put_end(room, at, count),
-        End::Bad(f, p) => listing::put_bad(room, at, session::code_of(f), p),
+        End::Clean => listing::put_line(room, at, Line::End(count)),
+        End::Bad(f, p) => listing::put_line(room, at, Line::Bad(session::code_of(f), p)),
     }
 }
 
@@ -117,7 +110,11 @@ fn play_events(s: &[u8], count: u16, first: usize, room: &mut [u8], at: usize) -
     let mut index = 0u16;
     while index < count {
         match session::event_from(s, from) {
-            Item::Bad(f, p) => return listing::put_bad(room, place, session::code_of(f), p),
+            Item::Bad(f, p) => return listing::put_line(
+                room,
+                place,
+                Line::Bad(session::code_of(f), p),
+            ),
             Item::Next(e, next) => {
                 let x = play_event(&mut m, k, index, e, room, place);
                 k = x.core;
@@ -137,9 +134,9 @@ fn put_listing(s: &[u8], room: &mut [u8]) -> usize
     ensures bound { λ r. ⌜ r ≤ 327840 ⌝ }
 {
     match session::header_at(s, 0) {
-        Header::Bad(f, p) => listing::put_bad(room, 0, session::code_of(f), p),
+        Header::Bad(f, p) => listing::put_line(room, 0, Line::Bad(session::code_of(f), p)),
         Header::Good(count, next) => {
-            let at = listing::put_events(room, 0, count);
+            let at = listing::put_line(room, 0, Line::Count(count));
             play_events(s, count, next, room, at)
         }
     }
@@ -147,10 +144,10 @@ fn put_listing(s: &[u8], room: &mut [u8]) -> usize
 
 // ---- lent room that may be short
 
-fn space() -> [u8; 327840]
+fn space() -> [u8; ROOM]
     ensures { λ r. ⌜ 327840 ≡ length r ⌝ }
 {
-    [0; 327840]
+    [0; ROOM]
 }
 
 fn copy(room: &mut [u8], text: &[u8])
@@ -189,9 +186,3 @@ pub fn play(s: &[u8], room: &mut [u8]) -> Played
     let n = put_listing(s, room);
     Played::Listed(n)
 }
-
-// Claim: the lines of the first events are the same whatever follows their bytes, and the lines before a `bad` whatever follows its place.
-pub fn first_lines()
-    ensures first { λ _. ⌜ ((count : ℕ) (es : List SessionEvent) → count ≤ reading.longest → length es ≤ count → AllFit es → (t : List ℕ) → BeginsWith count es (rule.listingOf (written 1 ++ written count ++ eventsBytes es ++ t))) ⌝ }
-    ensures fault { λ _. ⌜ ((s : List ℕ) → Bytes s → (count : ℕ) (r : reading.Events) → reading.session reading.longest s ≡ reading.Counted count r → (f : SessionFault) (p : ℕ) → r .end ≡ ends.Bad f p → (t : List ℕ) → BeginsWith count (r .events) (rule.listingOf (take p s ++ t))) ⌝ }
-{}

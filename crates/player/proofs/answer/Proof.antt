@@ -3,7 +3,7 @@ use native.Mathlib.Omega.{arith}
 use borrow.Author.Needs.{needs}
 use Rattle.rules.specs.Answers.{answerLent, refusedBy, valueOf}
 use Rattle.rules.specs.Run.{step, accept}
-use Rattle.player.specs.Player.{answerTo}
+use Rattle.bench_record.specs.Record.{answerTo}
 use Rattle.player.proofs.answer.Statement.{statement}
 use Rattle.player.proofs.answer.Tie as tie
 

@@ -1,7 +1,7 @@
 use mathlib.Core.Path.{_≡_, refl, ap, sym, _∙_}
 use native.Mathlib.Omega.{arith}
 use borrow.Author.Needs.{needs}
-use Rattle.player.specs.Laws.{event-laid, event-next}
+use Rattle.bench_record.specs.Laws.{event-laid, event-next}
 use Rattle.listing.specs.Laws.{line-laid}
 use Rattle.player.proofs.play_event.Statement.{statement}
 use Rattle.player.proofs.play_event.Tie as tie

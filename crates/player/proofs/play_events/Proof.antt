@@ -7,8 +7,8 @@ use Rattle.session.specs.Reading.{eventsAt}
 use Rattle.rules.specs.Run.{fresh}
 use Rattle.rules.specs.Answers.{controller}
 use Rattle.listing.specs.Laws.{line-laid}
-use Rattle.player.specs.Player.{body}
-use Rattle.player.specs.Laws.{Goes, begun, other-rest, first-rest, bad-line, bad-laid, stepped, last-line, laid-all}
+use Rattle.bench_record.specs.Record.{body}
+use Rattle.bench_record.specs.Laws.{Goes, begun, other-rest, first-rest, bad-line, bad-laid, stepped, last-line, laid-all}
 use Rattle.player.proofs.Bytes.{step-fits}
 use Rattle.player.proofs.play_events.Statement.{statement}
 use Rattle.player.proofs.play_events.Tie as tie
@@ -34,8 +34,8 @@ play-events-spec =
     (λ c. let x = c .before .before .before .before .before .before .before .before .before .before .before .before .before .before .before .before .args in
     let l = c .before .before .before .before .before .before .before .before .before .before .loop in (
       bad-laid _ _ _ (l .inv .3) (bad-line (controller (l .m) (l .k)) (x .s .now) (x .count) (l .index) (l .from) (c .before .before .before .before .before .before .before .before .before .loop-test .taken) (sym (c .before .before .before .before .before .before .before .before .event-from .ensures) ∙ c .before .before .before .before .before .before .f .given .1)) (c .before .before .before .code-of .ensures)
-          (line-laid {room = l .room} {at = l .place} (omega arith) (c .before .before .put-bad .ensures .0) (c .before .before .put-bad .ensures .1 .0)),
-      (let b = c .before .before .put-bad .ensures .1 .1 in omega arith),
+          (line-laid {room = l .room} {at = l .place} (omega arith) (c .before .before .put-line .ensures .0) (c .before .before .put-line .ensures .1 .0)),
+      (let b = c .before .before .put-line .ensures .1 .1 in omega arith),
     ))
     (λ c. search needs)
     (λ c κs. omega arith)

@@ -28,9 +28,9 @@ use Rattle.rules.specs.declared.Answer.{Answer}
 use Rattle.rules.specs.declared.CoreOutcome.{CoreOutcome}
 use Rattle.listing.specs.Listing.{line, eventsLine, badLine}
 use Rattle.listing.specs.Laws.{Laid, joined, sets-append}
-use Rattle.player.specs.Player.{answerTo, lines, closing, body, listing, listingOf, played, playedRoom}
-use Rattle.player.specs.declared.Played.{Played}
-use Rattle.player.specs.declared.Played.the-variants.{Listed, Short}
+use Rattle.bench_record.specs.Record.{answerTo, lines, closing, body, listing, listingOf, played, playedRoom}
+use Rattle.bench_record.specs.declared.Played.{Played}
+use Rattle.bench_record.specs.declared.Played.the-variants.{Listed, Short}
 
 -- ---- what is due from the event number `index` on
 

@@ -1,3 +1,3 @@
-pub mod Player
+pub mod Record
 pub mod Laws
 pub mod Claims

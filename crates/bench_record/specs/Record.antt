@@ -15,8 +15,8 @@ use Rattle.rules.specs.declared.Event.the-variants as controls
 use Rattle.rules.specs.declared.Controller.{Controller}
 use Rattle.rules.specs.declared.Answer.{Answer}
 use Rattle.listing.specs.Listing.{line, eventsLine, endLine, badLine}
-use Rattle.player.specs.declared.Played.{Played}
-use Rattle.player.specs.declared.Played.the-variants.{Listed, Short}
+use Rattle.bench_record.specs.declared.Played.{Played}
+use Rattle.bench_record.specs.declared.Played.the-variants.{Listed, Short}
 
 -- An event of a session is one of the controller, by the step rule; "a mark, no effect".
 unfoldable pub answerTo : Controller → Event → Answer

@@ -16,7 +16,7 @@ use Rattle.session.specs.Claims.{Begins, prefix}
 use Rattle.rules.specs.Run.{fresh}
 use Rattle.rules.specs.declared.Controller.{Controller}
 use Rattle.listing.specs.Listing.{line, eventsLine}
-use Rattle.player.specs.Player.{answerTo, lines, closing, body, listing, listingOf}
+use Rattle.bench_record.specs.Record.{answerTo, lines, closing, body, listing, listingOf}
 
 -- A listing begins with the lines of a count and of events.
 abbrev pub BeginsWith : ℕ → List Event → List ℕ → Type 0

@@ -1,6 +1,0 @@
-use Rattle.player.specs.Claims.{first-events, before-a-fault}
-use Rattle.player.proofs.first_lines.Statement.{statement}
-use Rattle.player.proofs.first_lines.Tie as tie
-
-pub first-lines-spec : {M : Type 1} → statement M
-first-lines-spec = tie.close (tie.spec (λ c. (first-events, before-a-fault)))
