@@ -10,9 +10,9 @@ use lib.Dec.{ltb}
 use lib.ListN.{length, set, length-append}
 use lib.Seq.{sets}
 use Rattle.number.specs.Number.{pick}
-use Rattle.listing.specs.declared.Line.{Line}
-use Rattle.listing.specs.declared.Line.the-variants.{Count, Answer, Bad, End}
-use Rattle.listing.specs.Listing.{digit, decimalIn, decimal, twoDigits, hexadecimalIn, hexadecimal, newline, eventsText, endText, badText, atText, eventText, line, eventsLine, endLine, badLine, lineOf, longest, holds, lineRoom, linePlace}
+use Rattle.listing.specs.declared.Edge.{Edge}
+use Rattle.listing.specs.declared.Edge.the-variants.{Count, Bad, End}
+use Rattle.listing.specs.Listing.{digit, decimalIn, decimal, twoDigits, hexadecimalIn, hexadecimal, newline, eventsText, endText, badText, atText, eventsLine, endLine, badLine, edgeLine, longest, holds, lineRoom, linePlace}
 
 -- ---- decimal
 
@@ -106,20 +106,18 @@ pub line-laid : {room after text : List ℕ} {at r : ℕ} → at + longest ≤ l
 unfolding holds linePlace lineRoom
 line-laid {room} {at = at} h p q = record { room = simp (le-leb (at + longest) (length room) h) at q; behind = simp (le-leb (at + longest) (length room) h) at p }
 
--- ---- a line is its words and a line feed
+-- ---- a line around the events is its words and a line feed
 
-abbrev pub words : Line → List ℕ
+abbrev pub words : Edge → List ℕ
 words (Count count) = eventsText ++ decimal count
-words (Answer index e refused value) = decimal index ++ eventText e refused value
 words (Bad number place) = (badText ++ decimal number) ++ (atText ++ decimal place)
 words (End count) = endText ++ decimal count
 
-line-words : (l : Line) → words l ++ newline ≡ lineOf l
-unfolding line eventsLine endLine badLine
+line-words : (l : Edge) → words l ++ newline ≡ edgeLine l
+unfolding eventsLine endLine badLine
 line-words (Count count) = refl
-line-words (Answer index e refused value) = refl
 line-words (Bad number place) = refl
 line-words (End count) = refl
 
-pub ended : {before after : List ℕ} {at place : ℕ} (l : Line) → Laid before at (words l ++ newline) after place → Laid before at (lineOf l) after place
+pub ended : {before after : List ℕ} {at place : ℕ} (l : Edge) → Laid before at (words l ++ newline) after place → Laid before at (edgeLine l) after place
 ended l h = rw (← (line-words l)) h

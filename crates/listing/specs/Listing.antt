@@ -9,8 +9,8 @@ use lib.Seq.{sets}
 use Rattle.number.specs.Number.{pick}
 use Rattle.session.specs.declared.Event.{Event}
 use Rattle.session.specs.declared.Event.the-variants.{Reset, Write, Read, Slot, Mark}
-use Rattle.listing.specs.declared.Line.{Line}
-use Rattle.listing.specs.declared.Line.the-variants.{Count, Answer, Bad, End}
+use Rattle.listing.specs.declared.Edge.{Edge}
+use Rattle.listing.specs.declared.Edge.the-variants.{Count, Bad, End}
 
 -- The digit of a number below 16: 0 to 9, A to F.
 unfoldable pub digit : ℕ → ℕ
@@ -111,12 +111,10 @@ endLine count = (endText ++ decimal count) ++ newline
 unfoldable pub badLine : ℕ → ℕ → List ℕ
 badLine number place = ((badText ++ decimal number) ++ (atText ++ decimal place)) ++ newline
 
--- A line by its kind.
-abbrev pub lineOf : Line → List ℕ
-lineOf (Count count) = eventsLine count
-lineOf (Answer index e refused value) = line index e refused value
-lineOf (Bad number place) = badLine number place
-lineOf (End count) = endLine count
+abbrev pub edgeLine : Edge → List ℕ
+edgeLine (Count count) = eventsLine count
+edgeLine (Bad number place) = badLine number place
+edgeLine (End count) = endLine count
 
 -- ---- a line in lent room
 

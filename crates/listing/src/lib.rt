@@ -7,10 +7,9 @@ ghost use Rattle.listing.specs.Listing as rule;
 ghost use Rattle.listing.specs.Laws.{Laid, words};
 use session::Event;
 
-// A line: the count of events; an event's number, the event and its answer (the refusal's number or 0, and the value); a fault's number and its place; the end.
-pub enum Line {
+// The lines around those of the events: their count before them; behind them a fault's number and its place, or the end.
+pub enum Edge {
     Count(u16),
-    Answer(u16, Event, u8, u8),
     Bad(u8, usize),
     End(u16),
 }
@@ -179,23 +178,19 @@ fn put_event(room: &mut [u8], at: usize, e: Event, refused: u8, value: u8) -> us
     }
 }
 
-// A line but for its end.
-fn put_words(room: &mut [u8], at: usize, l: Line) -> usize
-    requires { ⌜ at + 75 ≤ length (now room) ⌝ }
+// An edge but for the end of its line.
+fn put_words(room: &mut [u8], at: usize, l: Edge) -> usize
+    requires { ⌜ at + 48 ≤ length (now room) ⌝ }
     ensures { λ r. ⌜ Laid (now (room .entry)) at (words l) (now (room .exit)) r ⌝ }
-    ensures bound { λ r. ⌜ r ≤ at + 75 ⌝ }
+    ensures bound { λ r. ⌜ r ≤ at + 48 ⌝ }
 {
     match l {
-        Line::Count(count) => put_number(room, at, b"events ", count as usize),
-        Line::Answer(index, e, refused, value) => {
-            let p = put_decimal(room, at, index as usize);
-            put_event(room, p, e, refused, value)
-        }
-        Line::Bad(number, place) => {
+        Edge::Count(count) => put_number(room, at, b"events ", count as usize),
+        Edge::Bad(number, place) => {
             let p = put_number(room, at, b"bad ", number as usize);
             put_number(room, p, b" at ", place)
         }
-        Line::End(count) => put_number(room, at, b"end ", count as usize),
+        Edge::End(count) => put_number(room, at, b"end ", count as usize),
     }
 }
 
@@ -223,14 +218,29 @@ fn holds(room: usize, at: usize) -> bool
     true
 }
 
-pub fn put_line(room: &mut [u8], at: usize, l: Line) -> usize
-    ensures place { λ r. ⌜ r ≡ rule.linePlace (length (now (room .entry))) at (rule.lineOf l) ⌝ }
-    ensures room { λ r. ⌜ now (room .exit) ≡ rule.lineRoom (now (room .entry)) at (rule.lineOf l) ⌝ }
+// `events N`, `bad N at P`, `end N`.
+pub fn put_edge(room: &mut [u8], at: usize, l: Edge) -> usize
+    ensures place { λ r. ⌜ r ≡ rule.linePlace (length (now (room .entry))) at (rule.edgeLine l) ⌝ }
+    ensures room { λ r. ⌜ now (room .exit) ≡ rule.lineRoom (now (room .entry)) at (rule.edgeLine l) ⌝ }
     ensures bound { λ r. ⌜ r ≤ at + rule.longest ⌝ }
 {
     if holds(room.len(), at) {
         let p = put_words(room, at, l);
         return put_newline(room, p);
+    }
+    at
+}
+
+// An event's number, the event and its answer: the refusal's number or 0, and the value.
+pub fn put_line(room: &mut [u8], at: usize, index: u16, e: Event, refused: u8, value: u8) -> usize
+    ensures place { λ r. ⌜ r ≡ rule.linePlace (length (now (room .entry))) at (rule.line index e refused value) ⌝ }
+    ensures room { λ r. ⌜ now (room .exit) ≡ rule.lineRoom (now (room .entry)) at (rule.line index e refused value) ⌝ }
+    ensures bound { λ r. ⌜ r ≤ at + rule.longest ⌝ }
+{
+    if holds(room.len(), at) {
+        let p = put_decimal(room, at, index as usize);
+        let q = put_event(room, p, e, refused, value);
+        return put_newline(room, q);
     }
     at
 }

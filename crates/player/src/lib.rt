@@ -10,7 +10,7 @@ ghost use Rattle.listing.specs.Listing as text;
 ghost use Rattle.listing.specs.Laws.{Laid};
 ghost use Rattle.bench_record.specs.Record as rule;
 use bench_record::Played;
-use listing::Line;
+use listing::Edge;
 use rules::Core;
 use rules::CoreOutcome;
 use rules::Reply;
@@ -74,11 +74,7 @@ fn play_event(m: &mut [u8; 256], k: Core, index: u16, e: Event, room: &mut [u8],
     let a = answer(m, k, e);
     let reply = a.reply;
     let core = a.next;
-    let place = listing::put_line(
-        room,
-        at,
-        Line::Answer(index, e, refused_by(reply), value_of(reply)),
-    );
+    let place = listing::put_line(room, at, index, e, refused_by(reply), value_of(reply));
     Step { core, place }
 }
 
@@ -91,8 +87,8 @@ fn put_closing(s: &[u8], from: usize, count: u16, room: &mut [u8], at: usize) ->
     ensures bound { λ r. ⌜ r ≤ at + text.longest ⌝ }
 {
     match session::end_at(s, from) {
-        End::Clean => listing::put_line(room, at, Line::End(count)),
-        End::Bad(f, p) => listing::put_line(room, at, Line::Bad(session::code_of(f), p)),
+        End::Clean => listing::put_edge(room, at, Edge::End(count)),
+        End::Bad(f, p) => listing::put_edge(room, at, Edge::Bad(session::code_of(f), p)),
     }
 }
 
@@ -110,10 +106,10 @@ fn play_events(s: &[u8], count: u16, first: usize, room: &mut [u8], at: usize) -
     let mut index = 0u16;
     while index < count {
         match session::event_from(s, from) {
-            Item::Bad(f, p) => return listing::put_line(
+            Item::Bad(f, p) => return listing::put_edge(
                 room,
                 place,
-                Line::Bad(session::code_of(f), p),
+                Edge::Bad(session::code_of(f), p),
             ),
             Item::Next(e, next) => {
                 let x = play_event(&mut m, k, index, e, room, place);
@@ -134,9 +130,9 @@ fn put_listing(s: &[u8], room: &mut [u8]) -> usize
     ensures bound { λ r. ⌜ r ≤ 327840 ⌝ }
 {
     match session::header_at(s, 0) {
-        Header::Bad(f, p) => listing::put_line(room, 0, Line::Bad(session::code_of(f), p)),
+        Header::Bad(f, p) => listing::put_edge(room, 0, Edge::Bad(session::code_of(f), p)),
         Header::Good(count, next) => {
-            let at = listing::put_line(room, 0, Line::Count(count));
+            let at = listing::put_edge(room, 0, Edge::Count(count));
             play_events(s, count, next, room, at)
         }
     }

@@ -34,8 +34,8 @@ play-events-spec =
     (λ c. let x = c .before .before .before .before .before .before .before .before .before .before .before .before .before .before .before .before .args in
     let l = c .before .before .before .before .before .before .before .before .before .before .loop in (
       bad-laid _ _ _ (l .inv .3) (bad-line (controller (l .m) (l .k)) (x .s .now) (x .count) (l .index) (l .from) (c .before .before .before .before .before .before .before .before .before .loop-test .taken) (sym (c .before .before .before .before .before .before .before .before .event-from .ensures) ∙ c .before .before .before .before .before .before .f .given .1)) (c .before .before .before .code-of .ensures)
-          (line-laid {room = l .room} {at = l .place} (omega arith) (c .before .before .put-line .ensures .0) (c .before .before .put-line .ensures .1 .0)),
-      (let b = c .before .before .put-line .ensures .1 .1 in omega arith),
+          (line-laid {room = l .room} {at = l .place} (omega arith) (c .before .before .put-edge .ensures .0) (c .before .before .put-edge .ensures .1 .0)),
+      (let b = c .before .before .put-edge .ensures .1 .1 in omega arith),
     ))
     (λ c. search needs)
     (λ c κs. omega arith)
