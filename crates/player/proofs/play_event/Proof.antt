@@ -2,6 +2,7 @@ use mathlib.Core.Path.{_≡_, refl, ap, sym, _∙_}
 use native.Mathlib.Omega.{arith}
 use borrow.Author.Needs.{needs}
 use Rattle.bench_record.specs.Laws.{event-laid, event-next}
+use Rattle.listing.specs.Listing.{line}
 use Rattle.listing.specs.Laws.{line-laid}
 use Rattle.player.proofs.play_event.Statement.{statement}
 use Rattle.player.proofs.play_event.Tie as tie
@@ -17,7 +18,7 @@ play-event-spec =
     (λ c. let x = c .before .before .before .before .before .before .before .before .before .before .args in (
       event-next _ _ _ (c .before .before .before .before .before .before .before .answer .ensures),
       (
-        event-laid _ _ _ (c .before .before .before .before .before .before .before .answer .ensures) _ _ (c .before .before .before .before .refused-by .ensures) (c .before .before .before .value-of .ensures) (x .room .now) (x .at) (x .index) (x .e) _ _ (line-laid {room = x .room .now} {at = x .at} (omega arith) (c .before .before .put-line .ensures .0) (c .before .before .put-line .ensures .1 .0)),
+        event-laid _ _ _ (c .before .before .before .before .before .before .before .answer .ensures) _ _ (c .before .before .before .before .refused-by .ensures) (c .before .before .before .value-of .ensures) (x .room .now) (x .at) (x .index) (x .e) _ _ (line-laid {room = x .room .now} {text = line (x .index) (x .e) (c .before .before .before .before .refused-by .result) (c .before .before .before .value-of .result)} {at = x .at} (omega arith) (c .before .before .put-line .ensures .0) (c .before .before .put-line .ensures .1 .0)),
         c .before .before .put-line .ensures .1 .1,
       ),
     )))
