@@ -223,7 +223,7 @@ fn byte_at(s: &[u8], at: usize) -> u8 {
 fn bytes_case(s: &[u8]) {
     let mut data = [0u8; 80];
     let n = read_bytes(word(s, behind(s, 0)), &mut data);
-    let check = 32767 - line::check_bytes(32767, part(&data, 0, n)) % 32768;
+    let check = 32767 - frame_check::check_bytes(32767, part(&data, 0, n)) % 32768;
     say_bytes(&[(check / 256) as u8, (check % 256) as u8]);
 }
 

@@ -115,7 +115,7 @@ fn remainder_of(s: &[u8], count: usize) -> u16
     let mut r: u16 = 32767;
     let mut i = 0;
     while i < count {
-        r = line::check_bit(r, s[10 + i + i / 4]);
+        r = frame_check::check_bit(r, s[10 + i + i / 4]);
         i += 1;
     }
     r

@@ -97,9 +97,9 @@ fn check_of(identifier: u16, command: u8, bytes: &[u8]) -> u16
     requires { ⌜ (identifier < 4096) × (command < 16) ⌝ }
     ensures { λ r. ⌜ r ≡ check.check (bits.bits 12 identifier ++ (bits.bits 4 command ++ frame.byteBits (now (bytes .entry)))) ⌝ }
 {
-    let high = line::check_byte(32767, (identifier / 16) as u8);
-    let low = line::check_byte(high, (identifier % 16 * 16) as u8 + command);
-    32767 - line::check_bytes(low, bytes)
+    let high = frame_check::check_byte(32767, (identifier / 16) as u8);
+    let low = frame_check::check_byte(high, (identifier % 16 * 16) as u8 + command);
+    32767 - frame_check::check_bytes(low, bytes)
 }
 
 // All slots of a frame, in room that holds them.

@@ -74,7 +74,7 @@ fn check_received(bytes: [u8; 34], n: u8, last: u8) -> u16
 fn check_of(bytes: &[u8]) -> u16
     ensures { λ r. ⌜ r ≡ check.check (frame.byteBits (now (bytes .entry))) ⌝ }
 {
-    32767 - line::check_bytes(32767, bytes)
+    32767 - frame_check::check_bytes(32767, bytes)
 }
 
 // The check of identifier, command and n data bytes. A frame's bytes hold at most 32.

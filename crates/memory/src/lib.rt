@@ -97,7 +97,7 @@ fn check_of(bytes: &[u8]) -> u16
     ensures value { λ r. ⌜ r ≡ check.check (frame.byteBits (now (bytes .entry))) ⌝ }
     ensures range { λ r. ⌜ r < 32768 ⌝ }
 {
-    32767 - line::check_bytes(32767, bytes)
+    32767 - frame_check::check_bytes(32767, bytes)
 }
 
 // The check as two bytes behind the data, a zero bit behind it.

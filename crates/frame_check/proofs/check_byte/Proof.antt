@@ -1,7 +1,7 @@
 use mathlib.Core.Path.{sym, _∙_, ap}
 use Rattle.line.specs.Laws.{bits-split, remainder-append}
-use Rattle.line.proofs.check_byte.Statement.{statement}
-use Rattle.line.proofs.check_byte.Tie as tie
+use Rattle.frame_check.proofs.check_byte.Statement.{statement}
+use Rattle.frame_check.proofs.check_byte.Tie as tie
 
 pub check-byte-spec : {M : Type 1} → statement M
 check-byte-spec =

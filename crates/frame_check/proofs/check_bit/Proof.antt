@@ -1,9 +1,9 @@
 use borrow.Author.Needs.{needs}
 use mathlib.Core.Path.{refl}
 use borrow.Author.Tests.{lt-ltb, le-ltb, le-leb, lt-leb, eq-eqb, ne-eqb}
 use Rattle.line.specs.Check.{checkBit, polynomial}
-use Rattle.line.proofs.check_bit.Statement.{statement}
-use Rattle.line.proofs.check_bit.Tie as tie
+use Rattle.frame_check.proofs.check_bit.Statement.{statement}
+use Rattle.frame_check.proofs.check_bit.Tie as tie
 
 pub check-bit-spec : {M : Type 1} → statement M
 unfolding checkBit polynomial

@@ -2,11 +2,11 @@ use Prim.Native.Nat.{_≤_, _-_}
 use mathlib.Core.Path.{_≡_, refl, sym, _∙_}
 use native.Mathlib.Omega.{arith}
 use lib.ListN.{length, drop}
 use Rattle.line.specs.Check.{remainder}
 use Rattle.line.specs.Frame.{byteBits}
 use Rattle.line.specs.Laws.{bytes-next, bytes-end}
-use Rattle.line.proofs.check_bytes.Statement.{statement}
-use Rattle.line.proofs.check_bytes.Tie as tie
+use Rattle.frame_check.proofs.check_bytes.Statement.{statement}
+use Rattle.frame_check.proofs.check_bytes.Tie as tie
 
 abbrev Inv-loop : tie.InvT-loop
 Inv-loop first bytes r₀ i₀ r i =

@@ -1,9 +1,9 @@
 use mathlib.Core.Path.{refl}
 use native.Mathlib.Nat.{div-one}
 use Rattle.line.specs.Bits.{bits}
 use Rattle.line.specs.Check.{remainder}
-use Rattle.line.proofs.check_nibble.Statement.{statement}
-use Rattle.line.proofs.check_nibble.Tie as tie
+use Rattle.frame_check.proofs.check_nibble.Statement.{statement}
+use Rattle.frame_check.proofs.check_nibble.Tie as tie
 
 pub check-nibble-spec : {M : Type 1} → statement M
 unfolding bits remainder
