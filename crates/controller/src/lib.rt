@@ -1,13 +1,13 @@
 // The controller by value: fresh, pin reset, host write, host read, slot, interrupt line. Each answers what the step rule says (01, Numbers refused; Session and listing).
 ghost use mathlib.Core.Path.{_≡_};
 ghost use Rattle.rules.specs.Run as run;
-ghost use Rattle.rules.specs.Host as host_rule;
 ghost use Rattle.rules.specs.Answers as answers;
 ghost use Rattle.rules.specs.declared.Event.the-variants as event;
 use registers::Map;
 use rules::Controller;
 use rules::Outcome;
 use rules::Refusal;
+pub use status::interrupt;
 
 // A fresh controller: a reset one with zero channels and mailbox.
 pub fn fresh() -> Controller
@@ -61,13 +61,6 @@ pub fn slot(c: Controller, levels: u16) -> Outcome
     t.core = k;
     let reply = x.reply;
     Outcome { reply, next: t }
-}
-
-// The interrupt line.
-pub fn interrupt(c: Controller) -> bool
-    ensures { λ r. ⌜ r ≡ host_rule.interruptLine c ⌝ }
-{
-    status::asserted(c.core.report.flags, c.memory[Map::INTERRUPT_ENABLE])
 }
 
 // 01's number of a refusal.
