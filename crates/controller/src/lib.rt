@@ -6,7 +6,6 @@ ghost use Rattle.rules.specs.declared.Event.the-variants as event;
 use registers::Map;
 use rules::Controller;
 use rules::Outcome;
-use rules::Refusal;
 pub use status::interrupt;
 
 // A fresh controller: a reset one with zero channels and mailbox.
@@ -61,20 +60,4 @@ pub fn slot(c: Controller, levels: u16) -> Outcome
     t.core = k;
     let reply = x.reply;
     Outcome { reply, next: t }
-}
-
-// 01's number of a refusal.
-pub fn number(why: Refusal) -> u8
-    ensures { λ r. ⌜ r ≡ answers.number why ⌝ }
-{
-    match why {
-        Refusal::Address => 1,
-        Refusal::Value => 2,
-        Refusal::Unwritable => 3,
-        Refusal::Unreadable => 4,
-        Refusal::Levels => 5,
-        Refusal::Range => 6,
-        Refusal::Asleep => 7,
-        Refusal::FixedBits => 8,
-    }
 }
