@@ -1,13 +1,16 @@
-// The controller by value: fresh, pin reset, host write, host read, slot, interrupt line. Each answers what the step rule says (01, Numbers refused; Session and listing).
+// The controller by value, its six calls in one place: fresh and slot stand here; pin reset, host write and host read come from access, the interrupt line from status.
+// Each answers what the step rule says (01, Numbers refused; Session and listing).
 ghost use mathlib.Core.Path.{_≡_};
 ghost use Rattle.rules.specs.Run as run;
-ghost use Rattle.rules.specs.Host as host_rule;
 ghost use Rattle.rules.specs.Answers as answers;
 ghost use Rattle.rules.specs.declared.Event.the-variants as event;
+pub use access::host_read;
+pub use access::host_write;
+pub use access::pin_reset;
 use registers::Map;
 use rules::Controller;
 use rules::Outcome;
-use rules::Refusal;
+pub use status::interrupt;
 
 // A fresh controller: a reset one with zero channels and mailbox.
 pub fn fresh() -> Controller
@@ -19,39 +22,6 @@ pub fn fresh() -> Controller
     }
 }
 
-pub fn pin_reset(c: Controller) -> Outcome
-    ensures { λ r. ⌜ answers.answerOf r ≡ run.step c event.Reset ⌝ }
-{
-    let mut t = c;
-    let x = host::pin_reset_on(&mut t.memory, c.core);
-    let k = x.next; // the state reset
-    t.core = k;
-    let reply = x.reply;
-    Outcome { reply, next: t }
-}
-
-pub fn host_write(c: Controller, address: u16, value: u16) -> Outcome
-    ensures { λ r. ⌜ answers.answerOf r ≡ run.step c (event.Write address value) ⌝ }
-{
-    let mut t = c;
-    let x = host::host_write_on(&mut t.memory, c.core, address, value);
-    let k = x.next;
-    t.core = k;
-    let reply = x.reply;
-    Outcome { reply, next: t }
-}
-
-pub fn host_read(c: Controller, address: u16) -> Outcome
-    ensures { λ r. ⌜ answers.answerOf r ≡ run.step c (event.Read address) ⌝ }
-{
-    let mut t = c;
-    let x = host::host_read_on(&t.memory, c.core, address);
-    let k = x.next;
-    t.core = k;
-    let reply = x.reply;
-    Outcome { reply, next: t }
-}
-
 pub fn slot(c: Controller, levels: u16) -> Outcome
     ensures { λ r. ⌜ answers.answerOf r ≡ run.step c (event.Slot levels) ⌝ }
 {
@@ -61,27 +31,4 @@ pub fn slot(c: Controller, levels: u16) -> Outcome
     t.core = k;
     let reply = x.reply;
     Outcome { reply, next: t }
-}
-
-// The interrupt line.
-pub fn interrupt(c: Controller) -> bool
-    ensures { λ r. ⌜ r ≡ host_rule.interruptLine c ⌝ }
-{
-    status::asserted(c.core.report.flags, c.memory[Map::INTERRUPT_ENABLE])
-}
-
-// 01's number of a refusal.
-pub fn number(why: Refusal) -> u8
-    ensures { λ r. ⌜ r ≡ answers.number why ⌝ }
-{
-    match why {
-        Refusal::Address => 1,
-        Refusal::Value => 2,
-        Refusal::Unwritable => 3,
-        Refusal::Unreadable => 4,
-        Refusal::Levels => 5,
-        Refusal::Range => 6,
-        Refusal::Asleep => 7,
-        Refusal::FixedBits => 8,
-    }
 }

@@ -3,7 +3,6 @@
 use libc::STDIN_FILENO;
 use libc::STDOUT_FILENO;
 use rules::Controller;
-use rules::Refusal;
 use rules::Reply;
 use session::End;
 use session::Event;
@@ -130,7 +129,7 @@ fn say_done(reply: Reply) {
         Reply::Accepted(_) => {
             io::write_all(STDOUT_FILENO, b" ok\n");
         }
-        Reply::Refused(why) => refused(why),
+        Reply::Refused(_) => refused(reply),
     }
 }
 
@@ -141,19 +140,19 @@ fn say_byte(reply: Reply) {
             say_hex(b as u16);
             io::write_all(STDOUT_FILENO, b"\n");
         }
-        Reply::Refused(why) => refused(why),
+        Reply::Refused(_) => refused(reply),
     }
 }
 
 fn say_level(reply: Reply) {
     match reply {
         Reply::Accepted(level) => line(b" drives ", level as u64),
-        Reply::Refused(why) => refused(why),
+        Reply::Refused(_) => refused(reply),
     }
 }
 
-fn refused(why: Refusal) {
-    line(b" refused ", controller::number(why) as u64);
+fn refused(reply: Reply) {
+    line(b" refused ", answers::refused_by(reply) as u64);
 }
 
 // The line of a fault of the session, with its place.

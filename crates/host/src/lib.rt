@@ -143,7 +143,7 @@ pub fn host_write_on(m: &mut [u8; 256], k: Core, address: u16, value: u16) -> Co
     ensures { λ r. ⌜ answers.answerLent r (now (m .exit)) ≡ run.hostWrite (answers.controller (now (m .entry)) k) address value ⌝ }
 {
     if state::in_range(k) {
-        if is_asleep(k.activity) { // 7 before 1
+        if is_asleep(k.activity) {
             return CoreOutcome {
                 reply: Reply::Refused(Refusal::Asleep),
                 next: k,
@@ -193,7 +193,7 @@ pub fn host_read_on(m: &[u8; 256], k: Core, address: u16) -> CoreOutcome
     if state::in_range(k) {
         if is_asleep(k.activity) {
             return CoreOutcome {
-                reply: Reply::Refused(Refusal::Asleep),
+                reply: Reply::Refused(Refusal::Asleep), // 7 before 1
                 next: k,
             };
         }

@@ -9,6 +9,8 @@ ghost use Rattle.rules.specs.Answers as answers;
 ghost use Rattle.listing.specs.Listing as text;
 ghost use Rattle.listing.specs.Laws.{Laid};
 ghost use Rattle.bench_record.specs.Record as rule;
+use answers::refused_by;
+use answers::value_of;
 use bench_record::Played;
 use listing::Edge;
 use rules::Core;
@@ -29,24 +31,6 @@ struct Step {
 pub const ROOM: usize = 327840;
 
 // ---- an event
-
-fn refused_by(reply: Reply) -> u8
-    ensures { λ r. ⌜ r ≡ answers.refusedBy reply ⌝ }
-{
-    match reply {
-        Reply::Accepted(_) => 0,
-        Reply::Refused(why) => controller::number(why),
-    }
-}
-
-fn value_of(reply: Reply) -> u8
-    ensures { λ r. ⌜ r ≡ answers.valueOf reply ⌝ }
-{
-    match reply {
-        Reply::Accepted(value) => value,
-        Reply::Refused(_) => 0,
-    }
-}
 
 // A mark has no effect.
 fn answer(m: &mut [u8; 256], k: Core, e: Event) -> CoreOutcome

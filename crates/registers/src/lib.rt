@@ -128,8 +128,8 @@ impl Map {
         true
     }
 
-    // The bits of a register that document 000 reserves.
-    pub fn reserved_bits(address: usize) -> u8
+    // The bits of a register that document 000 reserves. Nothing calls it: it ties the constants.
+    fn reserved_bits(address: usize) -> u8
         ensures { λ r. ⌜ r ≡ reserved.reservedBits address ⌝ }
     {
         if address == Map::LINE_CONTROL {
@@ -242,8 +242,8 @@ impl Map {
         }
     }
 
-    // 0x04 after a reset: idle, no frame.
-    pub fn reset_line_status() -> u8
+    // 0x04 after a reset: idle, no frame. Nothing calls it: it ties the constant.
+    fn reset_line_status() -> u8
         ensures { λ r. ⌜ r ≡ rule.lineStatus false true false false ⌝ }
     {
         Map::LINE_STATUS_RESET

@@ -2,6 +2,9 @@
 ghost use mathlib.Core.Path.{_≡_};
 ghost use Prim.Native.Nat.{_≤_};
 ghost use Rattle.rules.specs.Registers as rule;
+ghost use Rattle.rules.specs.Host as host_rule;
+use registers::Map;
+use rules::Controller;
 use rules::Flags;
 use rules::Retries;
 
@@ -66,8 +69,8 @@ pub fn cleared(f: Flags, value: u8) -> Flags
     }
 }
 
-// The interrupt line: status and enable share a one.
-pub fn asserted(f: Flags, enable: u8) -> bool
+// Whether status and enable share a one.
+fn asserted(f: Flags, enable: u8) -> bool
     ensures { λ r. ⌜ r ≡ rule.asserted f enable ⌝ }
 {
     if (f.rst) & (enable / 128 == 1) {
@@ -86,4 +89,11 @@ pub fn asserted(f: Flags, enable: u8) -> bool
         return true;
     }
     (f.rnok) & (enable % 2 == 1)
+}
+
+// The interrupt line.
+pub fn interrupt(c: Controller) -> bool
+    ensures { λ r. ⌜ r ≡ host_rule.interruptLine c ⌝ }
+{
+    asserted(c.core.report.flags, c.memory[Map::INTERRUPT_ENABLE])
 }

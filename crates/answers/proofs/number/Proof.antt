@@ -1,9 +1,7 @@
 use borrow.Author.Needs.{needs}
-use mathlib.Core.Path.{refl}
-use borrow.Author.Tests.{lt-ltb, le-ltb, le-leb, lt-leb, eq-eqb, ne-eqb}
 use Rattle.rules.specs.Answers.{number}
-use Rattle.controller.proofs.number.Statement.{statement}
-use Rattle.controller.proofs.number.Tie as tie
+use Rattle.answers.proofs.number.Statement.{statement}
+use Rattle.answers.proofs.number.Tie as tie
 
 pub number-spec : {M : Type 1} → statement M
 unfolding number

@@ -1,9 +1,7 @@
-use mathlib.Core.Path.{_≡_, refl, ap, sym, _∙_}
-use native.Mathlib.Omega.{arith}
 use borrow.Author.Needs.{needs}
 use Rattle.rules.specs.Answers.{refusedBy}
-use Rattle.player.proofs.refused_by.Statement.{statement}
-use Rattle.player.proofs.refused_by.Tie as tie
+use Rattle.answers.proofs.refused_by.Statement.{statement}
+use Rattle.answers.proofs.refused_by.Tie as tie
 
 pub refused-by-spec : {M : Type 1} → statement M
 unfolding refusedBy

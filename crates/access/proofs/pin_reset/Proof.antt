@@ -1,7 +1,7 @@
 use Rattle.rules.specs.Answers.{answerOf, answerLent}
 use Rattle.rules.specs.Run.{step}
-use Rattle.controller.proofs.pin_reset.Statement.{statement}
-use Rattle.controller.proofs.pin_reset.Tie as tie
+use Rattle.access.proofs.pin_reset.Statement.{statement}
+use Rattle.access.proofs.pin_reset.Tie as tie
 
 pub pin-reset-spec : {M : Type 1} → statement M
 unfolding answerOf answerLent step

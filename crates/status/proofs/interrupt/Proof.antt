@@ -1,7 +1,7 @@
 use borrow.Author.Needs.{needs}
 use Rattle.rules.specs.Host.{interruptLine}
-use Rattle.controller.proofs.interrupt.Statement.{statement}
-use Rattle.controller.proofs.interrupt.Tie as tie
+use Rattle.status.proofs.interrupt.Statement.{statement}
+use Rattle.status.proofs.interrupt.Tie as tie
 
 pub interrupt-spec : {M : Type 1} → statement M
 unfolding interruptLine

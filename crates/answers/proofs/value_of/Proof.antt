@@ -1,9 +1,7 @@
-use mathlib.Core.Path.{_≡_, refl, ap, sym, _∙_}
-use native.Mathlib.Omega.{arith}
 use borrow.Author.Needs.{needs}
 use Rattle.rules.specs.Answers.{valueOf}
-use Rattle.player.proofs.value_of.Statement.{statement}
-use Rattle.player.proofs.value_of.Tie as tie
+use Rattle.answers.proofs.value_of.Statement.{statement}
+use Rattle.answers.proofs.value_of.Tie as tie
 
 pub value-of-spec : {M : Type 1} → statement M
 unfolding valueOf
