@@ -99,26 +99,6 @@ fn reception_judged(m: &[u8; 256], h: Hearing, r: Reception, v: u8) -> Reception
     t
 }
 
-// 0x07, then what the frame did, then 0x05 at an error, then the end of the service; s has the sample counted.
-fn report_after(k: Core, w: Verdict, h: Hearing, s: Service) -> Report
-    ensures { λ r. ⌜ r ≡ ordinary.reportOf k w h s ⌝ }
-{
-    let d = delivers(w, h, k.reception);
-    let a = reports::report_heard(h, k.report);
-    let b = reports::report_delivered(d, a, k.reception);
-    let c = reports::report_judged(w, b, s);
-    reports::report_ended(ending::ending_of(w, s), c, s)
-}
-
-// The store or CHER first, then the marks of a service that ends.
-fn judge_memory(m: &mut [u8; 256], k: Core, w: Verdict, h: Hearing, x: Ending)
-    ensures { λ _. ⌜ now (m .exit) ≡ service_rule.memoryEnded x (delivery_rule.memoryDelivered (rule.delivers w h (k .reception)) (now (m .entry)) (k .reception)) (k .service .channel) ⌝ }
-{
-    let d = delivers(w, h, k.reception);
-    delivery::deliver(m, d, k.reception);
-    ending::end_memory(m, x, k.service.channel);
-}
-
 // ---- the ordinary slot: neither map nor registers change
 
 // The frame goes on, or there is none.
@@ -170,7 +150,7 @@ fn ordinary(w: Verdict, h: Hearing, x: Ending) -> bool
     false
 }
 
-// What a sample does to map, registers and service; s has the sample counted.
+// What a sample does to map, registers and service: the store or CHER first, then the marks of a service that ends; s has the sample counted.
 fn take_effect(m: &mut [u8; 256], k: Core, w: Verdict, h: Hearing, s: Service) -> Effects
     ensures map { λ r. ⌜ now (m .exit) ≡ service_rule.memoryEnded (service_rule.endingOf w s) (delivery_rule.memoryDelivered (rule.delivers w h (k .reception)) (now (m .entry)) (k .reception)) (k .service .channel) ⌝ }
     ensures report { λ r. ⌜ r .report ≡ ordinary.reportOf k w h s ⌝ }
@@ -181,9 +161,11 @@ fn take_effect(m: &mut [u8; 256], k: Core, w: Verdict, h: Hearing, s: Service) -
         let report = k.report;
         return Effects { report, service: s };
     }
-    judge_memory(m, k, w, h, x);
+    let d = delivers(w, h, k.reception);
+    delivery::deliver(m, d, k.reception);
+    ending::end_memory(m, x, k.service.channel);
     Effects {
-        report: report_after(k, w, h, s),
+        report: reports::report_after(k.report, w, h, d, x, k.reception, s),
         service: ending::settled(x, s),
     }
 }
