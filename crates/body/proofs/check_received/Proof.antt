@@ -1,7 +1,7 @@
 use borrow.Author.Needs.{needs}
 use Rattle.rules.specs.Hearing.{checkReceived}
-use Rattle.hearing.proofs.check_received.Statement.{statement}
-use Rattle.hearing.proofs.check_received.Tie as tie
+use Rattle.body.proofs.check_received.Statement.{statement}
+use Rattle.body.proofs.check_received.Tie as tie
 
 pub check-received-spec : {M : Type 1} → statement M
 unfolding checkReceived

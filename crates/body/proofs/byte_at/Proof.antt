@@ -5,8 +5,8 @@ use native.Mathlib.Omega.{arith}
 use mathlib.Core.Path.{_≡_, refl, sym}
 use mir.Syntax.{w8}
 use lib.ListN.{length, List·getD-eq-default}
-use Rattle.hearing.proofs.byte_at.Statement.{statement}
-use Rattle.hearing.proofs.byte_at.Tie as tie
+use Rattle.body.proofs.byte_at.Statement.{statement}
+use Rattle.body.proofs.byte_at.Tie as tie
 
 pub byte-at-spec : {M : Type 1} → statement M
 byte-at-spec =

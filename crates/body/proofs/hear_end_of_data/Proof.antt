@@ -1,8 +1,8 @@
 use borrow.Author.Needs.{needs}
 use borrow.Author.Tests.{eq-eqb, ne-eqb}
 use Rattle.rules.specs.Hearing.{hearEndOfData}
-use Rattle.hearing.proofs.hear_end_of_data.Statement.{statement}
-use Rattle.hearing.proofs.hear_end_of_data.Tie as tie
+use Rattle.body.proofs.hear_end_of_data.Statement.{statement}
+use Rattle.body.proofs.hear_end_of_data.Tie as tie
 
 pub hear-end-of-data-spec : {M : Type 1} → statement M
 unfolding hearEndOfData

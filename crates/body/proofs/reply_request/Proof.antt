@@ -1,6 +1,6 @@
 use Rattle.rules.specs.Hearing.{replyRequest}
-use Rattle.hearing.proofs.reply_request.Statement.{statement}
-use Rattle.hearing.proofs.reply_request.Tie as tie
+use Rattle.body.proofs.reply_request.Statement.{statement}
+use Rattle.body.proofs.reply_request.Tie as tie
 
 pub reply-request-spec : {M : Type 1} → statement M
 unfolding replyRequest

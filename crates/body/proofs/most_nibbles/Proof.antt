@@ -1,8 +1,8 @@
 use borrow.Author.Needs.{needs}
 use mathlib.Core.Path.{refl}
 use Rattle.rules.specs.Hearing.{mostNibbles}
-use Rattle.hearing.proofs.most_nibbles.Statement.{statement}
-use Rattle.hearing.proofs.most_nibbles.Tie as tie
+use Rattle.body.proofs.most_nibbles.Statement.{statement}
+use Rattle.body.proofs.most_nibbles.Tie as tie
 
 pub most-nibbles-spec : {M : Type 1} → statement M
 unfolding mostNibbles

@@ -1,7 +1,7 @@
 use borrow.Author.Tests.{lt-ltb, le-ltb}
 use Rattle.rules.specs.Hearing.{hearBody}
-use Rattle.hearing.proofs.hear_body.Statement.{statement}
-use Rattle.hearing.proofs.hear_body.Tie as tie
+use Rattle.body.proofs.hear_body.Statement.{statement}
+use Rattle.body.proofs.hear_body.Tie as tie
 
 pub hear-body-spec : {M : Type 1} → statement M
 unfolding hearBody

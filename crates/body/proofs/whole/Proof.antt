@@ -1,7 +1,7 @@
 use borrow.Author.Tests.{lt-ltb, le-ltb, eq-eqb, ne-eqb}
 use Rattle.rules.specs.Hearing.{whole}
-use Rattle.hearing.proofs.whole.Statement.{statement}
-use Rattle.hearing.proofs.whole.Tie as tie
+use Rattle.body.proofs.whole.Statement.{statement}
+use Rattle.body.proofs.whole.Tie as tie
 
 pub whole-spec : {M : Type 1} → statement M
 unfolding whole

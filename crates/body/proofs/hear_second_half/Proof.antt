@@ -1,8 +1,8 @@
 use borrow.Author.Needs.{needs}
 use borrow.Author.Tests.{lt-ltb, le-ltb, eq-eqb, ne-eqb}
 use Rattle.rules.specs.Hearing.{hearSecondHalf}
-use Rattle.hearing.proofs.hear_second_half.Statement.{statement}
-use Rattle.hearing.proofs.hear_second_half.Tie as tie
+use Rattle.body.proofs.hear_second_half.Statement.{statement}
+use Rattle.body.proofs.hear_second_half.Tie as tie
 
 pub hear-second-half-spec : {M : Type 1} → statement M
 unfolding hearSecondHalf

@@ -1,7 +1,7 @@
 use borrow.Author.Needs.{needs}
 use mathlib.Core.Path.{refl}
-use Rattle.hearing.proofs.fifteen.Statement.{statement}
-use Rattle.hearing.proofs.fifteen.Tie as tie
+use Rattle.body.proofs.fifteen.Statement.{statement}
+use Rattle.body.proofs.fifteen.Tie as tie
 
 pub fifteen-spec : {M : Type 1} → statement M
 fifteen-spec =

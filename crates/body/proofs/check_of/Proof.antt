@@ -2,8 +2,8 @@ use native.Mathlib.Omega.{arith}
 use Rattle.line.specs.Check.{check, allOnes}
 use Rattle.line.specs.Frame.{byteBits}
 use Rattle.line.specs.Laws.{remainder-below}
-use Rattle.hearing.proofs.check_of.Statement.{statement}
-use Rattle.hearing.proofs.check_of.Tie as tie
+use Rattle.body.proofs.check_of.Statement.{statement}
+use Rattle.body.proofs.check_of.Tie as tie
 
 pub check-of-spec : {M : Type 1} → statement M
 unfolding check allOnes

@@ -7,8 +7,8 @@ use mir.Syntax.{w8}
 use lib.ListN.{length}
 use lib.Seq.{take-all, length-take-le}
 use Rattle.rules.specs.Hearing.{checkDue}
-use Rattle.hearing.proofs.check_due.Statement.{statement}
-use Rattle.hearing.proofs.check_due.Tie as tie
+use Rattle.body.proofs.check_due.Statement.{statement}
+use Rattle.body.proofs.check_due.Tie as tie
 
 pub check-due-spec : {M : Type 1} → statement M
 unfolding checkDue
