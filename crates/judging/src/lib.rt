@@ -3,6 +3,7 @@ ghost use mathlib.Core.Path.{_≡_};
 ghost use mathlib.Core.Bool.{false};
 ghost use Rattle.rules.specs.Slots as rule;
 ghost use Rattle.rules.specs.Attempt as sending;
+ghost use Rattle.rules.specs.Reception as reception_rule;
 ghost use Rattle.rules.specs.Hearing as hearing_rule;
 ghost use Rattle.rules.specs.Service as service_rule;
 ghost use Rattle.rules.specs.Delivery as delivery_rule;
@@ -36,6 +37,19 @@ struct Effects {
 const LONGEST: u8 = 30;
 
 // ---- what a sample is
+
+// The model's own frame, for the line: it goes on, is another's once lost, ends in an error, or ends well.
+fn hear_own(w: Verdict) -> Hearing
+    ensures { λ r. ⌜ r ≡ service_rule.hearOwn w ⌝ }
+{
+    match w {
+        Verdict::Unjudged => Hearing::Silent,
+        Verdict::Goes => Hearing::Follows,
+        Verdict::Lost => Hearing::Follows,
+        Verdict::Failed(code) => Hearing::Fault(code),
+        Verdict::Done => Hearing::Good,
+    }
+}
 
 // For a frame that is not the model's own, or with none under way.
 fn heard(k: Core, v: u8) -> Hearing
@@ -88,13 +102,24 @@ fn reception_after(h: Hearing, r: Reception, v: u8) -> Reception
     }
 }
 
+// The frame with its winner, taken in the last command slot and held (house).
+fn named(r: Reception, m: &[u8; 256]) -> Reception
+    ensures { λ t. ⌜ t ≡ reception_rule.named r (now (m .entry)) ⌝ }
+{
+    let b = r.bytes;
+    let w = matching::winner_for(m, b[0], b[1]);
+    let mut t = r;
+    t.winner = w;
+    t
+}
+
 // The winner is taken in the last command slot, whoever sends.
 fn reception_judged(m: &[u8; 256], h: Hearing, r: Reception, v: u8) -> Reception
     ensures { λ t. ⌜ t ≡ rule.receptionJudged (now (m .entry)) h r v ⌝ }
 {
     let t = reception_after(h, r, v);
     if place::command_ended(t) {
-        return reception::named(t, m);
+        return named(t, m);
     }
     t
 }
@@ -186,7 +211,7 @@ fn judge(k: Core, v: u8) -> Judgement
         return Judgement {
             verdict: w,
             effort: f,
-            hearing: service::hear_own(w),
+            hearing: hear_own(w),
         };
     }
     Judgement {

@@ -1,7 +1,7 @@
 use borrow.Author.Needs.{needs}
 use Rattle.rules.specs.Reception.{named}
-use Rattle.reception.proofs.named.Statement.{statement}
-use Rattle.reception.proofs.named.Tie as tie
+use Rattle.judging.proofs.named.Statement.{statement}
+use Rattle.judging.proofs.named.Tie as tie
 
 pub named-spec : {M : Type 1} → statement M
 unfolding named

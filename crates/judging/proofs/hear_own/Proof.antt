@@ -1,6 +1,6 @@
 use Rattle.rules.specs.Service.{hearOwn}
-use Rattle.service.proofs.hear_own.Statement.{statement}
-use Rattle.service.proofs.hear_own.Tie as tie
+use Rattle.judging.proofs.hear_own.Statement.{statement}
+use Rattle.judging.proofs.hear_own.Tie as tie
 
 pub hear-own-spec : {M : Type 1} → statement M
 unfolding hearOwn
