@@ -147,7 +147,7 @@ fn answered(m: &[u8; 256], k: Core, level: u8) -> CoreOutcome
 pub fn slot_on(m: &mut [u8; 256], k: Core, levels: u16) -> CoreOutcome
     ensures { λ r. ⌜ answers.answerLent r (now (m .exit)) ≡ run.slot (answers.controller (now (m .entry)) k) levels ⌝ }
 {
-    if state::in_range(k) {
+    if ranges::in_range(k) {
         if 7 < levels {
             return CoreOutcome {
                 reply: Reply::Refused(Refusal::Levels),

@@ -1,8 +1,8 @@
 use mathlib.Core.Path.{refl}
 use borrow.Author.Tests.{lt-ltb, le-ltb, le-leb, lt-leb, eq-eqb, ne-eqb}
 use Rattle.rules.specs.State.{receptionInRange}
-use Rattle.state.proofs.reception_in_range.Statement.{statement}
-use Rattle.state.proofs.reception_in_range.Tie as tie
+use Rattle.ranges.proofs.reception_in_range.Statement.{statement}
+use Rattle.ranges.proofs.reception_in_range.Tie as tie
 
 pub reception-in-range-spec : {M : Type 1} → statement M
 unfolding receptionInRange
