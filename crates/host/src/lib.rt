@@ -88,7 +88,7 @@ fn byte_read(m: &[u8; 256], k: Core, address: usize) -> u8
 pub fn pin_reset_on(m: &mut [u8; 256], k: Core) -> CoreOutcome
     ensures { λ r. ⌜ answers.answerLent r (now (m .exit)) ≡ run.pinReset (answers.controller (now (m .entry)) k) ⌝ }
 {
-    if state::in_range(k) {
+    if ranges::in_range(k) {
         let t = command::reset(m);
         return CoreOutcome {
             reply: Reply::Accepted(0),
@@ -142,7 +142,7 @@ fn write_on(m: &mut [u8; 256], k: Core, address: u16, value: u16) -> CoreOutcome
 pub fn host_write_on(m: &mut [u8; 256], k: Core, address: u16, value: u16) -> CoreOutcome
     ensures { λ r. ⌜ answers.answerLent r (now (m .exit)) ≡ run.hostWrite (answers.controller (now (m .entry)) k) address value ⌝ }
 {
-    if state::in_range(k) {
+    if ranges::in_range(k) {
         if is_asleep(k.activity) {
             return CoreOutcome {
                 reply: Reply::Refused(Refusal::Asleep),
@@ -190,7 +190,7 @@ fn read_on(m: &[u8; 256], k: Core, address: u16) -> CoreOutcome
 pub fn host_read_on(m: &[u8; 256], k: Core, address: u16) -> CoreOutcome
     ensures { λ r. ⌜ answers.answerLent r (now (m .entry)) ≡ run.hostRead (answers.controller (now (m .entry)) k) address ⌝ }
 {
-    if state::in_range(k) {
+    if ranges::in_range(k) {
         if is_asleep(k.activity) {
             return CoreOutcome {
                 reply: Reply::Refused(Refusal::Asleep), // 7 before 1

@@ -3,6 +3,7 @@ ghost use mathlib.Core.Path.{_≡_};
 ghost use mathlib.Core.Bool.{false};
 ghost use Rattle.rules.specs.Slots as rule;
 ghost use Rattle.rules.specs.Attempt as sending;
+ghost use Rattle.rules.specs.Reception as reception_rule;
 ghost use Rattle.rules.specs.Hearing as hearing_rule;
 ghost use Rattle.rules.specs.Service as service_rule;
 ghost use Rattle.rules.specs.Delivery as delivery_rule;
@@ -36,6 +37,19 @@ struct Effects {
 const LONGEST: u8 = 30;
 
 // ---- what a sample is
+
+// The model's own frame, for the line: it goes on, is another's once lost, ends in an error, or ends well.
+fn hear_own(w: Verdict) -> Hearing
+    ensures { λ r. ⌜ r ≡ service_rule.hearOwn w ⌝ }
+{
+    match w {
+        Verdict::Unjudged => Hearing::Silent,
+        Verdict::Goes => Hearing::Follows,
+        Verdict::Lost => Hearing::Follows,
+        Verdict::Failed(code) => Hearing::Fault(code),
+        Verdict::Done => Hearing::Good,
+    }
+}
 
 // For a frame that is not the model's own, or with none under way.
 fn heard(k: Core, v: u8) -> Hearing
@@ -88,35 +102,26 @@ fn reception_after(h: Hearing, r: Reception, v: u8) -> Reception
     }
 }
 
+// The frame with its winner, taken in the last command slot and held (house).
+fn named(r: Reception, m: &[u8; 256]) -> Reception
+    ensures { λ t. ⌜ t ≡ reception_rule.named r (now (m .entry)) ⌝ }
+{
+    let b = r.bytes;
+    let w = matching::winner_for(m, b[0], b[1]);
+    let mut t = r;
+    t.winner = w;
+    t
+}
+
 // The winner is taken in the last command slot, whoever sends.
 fn reception_judged(m: &[u8; 256], h: Hearing, r: Reception, v: u8) -> Reception
     ensures { λ t. ⌜ t ≡ rule.receptionJudged (now (m .entry)) h r v ⌝ }
 {
     let t = reception_after(h, r, v);
     if place::command_ended(t) {
-        return reception::named(t, m);
+        return named(t, m);
     }
     t
-}
-
-// 0x07, then what the frame did, then 0x05 at an error, then the end of the service; s has the sample counted.
-fn report_after(k: Core, w: Verdict, h: Hearing, s: Service) -> Report
-    ensures { λ r. ⌜ r ≡ ordinary.reportOf k w h s ⌝ }
-{
-    let d = delivers(w, h, k.reception);
-    let a = reports::report_heard(h, k.report);
-    let b = reports::report_delivered(d, a, k.reception);
-    let c = reports::report_judged(w, b, s);
-    reports::report_ended(ending::ending_of(w, s), c, s)
-}
-
-// The store or CHER first, then the marks of a service that ends.
-fn judge_memory(m: &mut [u8; 256], k: Core, w: Verdict, h: Hearing, x: Ending)
-    ensures { λ _. ⌜ now (m .exit) ≡ service_rule.memoryEnded x (delivery_rule.memoryDelivered (rule.delivers w h (k .reception)) (now (m .entry)) (k .reception)) (k .service .channel) ⌝ }
-{
-    let d = delivers(w, h, k.reception);
-    delivery::deliver(m, d, k.reception);
-    ending::end_memory(m, x, k.service.channel);
 }
 
 // ---- the ordinary slot: neither map nor registers change
@@ -170,7 +175,7 @@ fn ordinary(w: Verdict, h: Hearing, x: Ending) -> bool
     false
 }
 
-// What a sample does to map, registers and service; s has the sample counted.
+// What a sample does to map, registers and service: the store or CHER first, then the marks of a service that ends; s has the sample counted.
 fn take_effect(m: &mut [u8; 256], k: Core, w: Verdict, h: Hearing, s: Service) -> Effects
     ensures map { λ r. ⌜ now (m .exit) ≡ service_rule.memoryEnded (service_rule.endingOf w s) (delivery_rule.memoryDelivered (rule.delivers w h (k .reception)) (now (m .entry)) (k .reception)) (k .service .channel) ⌝ }
     ensures report { λ r. ⌜ r .report ≡ ordinary.reportOf k w h s ⌝ }
@@ -181,9 +186,11 @@ fn take_effect(m: &mut [u8; 256], k: Core, w: Verdict, h: Hearing, s: Service) -
         let report = k.report;
         return Effects { report, service: s };
     }
-    judge_memory(m, k, w, h, x);
+    let d = delivers(w, h, k.reception);
+    delivery::deliver(m, d, k.reception);
+    ending::end_memory(m, x, k.service.channel);
     Effects {
-        report: report_after(k, w, h, s),
+        report: reports::report_after(k.report, w, h, d, x, k.reception, s),
         service: ending::settled(x, s),
     }
 }
@@ -204,7 +211,7 @@ fn judge(k: Core, v: u8) -> Judgement
         return Judgement {
             verdict: w,
             effort: f,
-            hearing: service::hear_own(w),
+            hearing: hear_own(w),
         };
     }
     Judgement {

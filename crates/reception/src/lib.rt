@@ -1,4 +1,4 @@
-// The frame under way: its place, its bits, who takes it (01, Receiving).
+// The frame under way: its place, its bits, its length (01, Receiving).
 // The frame is followed too while the model itself sends.
 ghost use mathlib.Core.Path.{_≡_};
 ghost use Prim.Native.Nat.{_<_, _+_, _*_, _/_, _%_};
@@ -183,18 +183,7 @@ pub fn followed(r: Reception, v: u8) -> Reception
     }
 }
 
-// ---- who takes it, and its length
-
-// The frame with its winner, taken in the last command slot and held (house).
-pub fn named(r: Reception, m: &[u8; 256]) -> Reception
-    ensures { λ t. ⌜ t ≡ rule.named r (now (m .entry)) ⌝ }
-{
-    let b = r.bytes;
-    let w = matching::winner_for(m, b[0], b[1]);
-    let mut t = r;
-    t.winner = w;
-    t
-}
+// ---- its length
 
 // Data bytes, by the whole nibbles before the last three bits: identifier, command and check have seven.
 pub fn data_count(nibbles: u8) -> u8

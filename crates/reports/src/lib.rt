@@ -49,7 +49,7 @@ fn report_stored(x: Report, asked: bool, channel: u8) -> Report
 }
 
 // A fault's code goes to 0x07, matched or not.
-pub fn report_heard(h: Hearing, x: Report) -> Report
+fn report_heard(h: Hearing, x: Report) -> Report
     ensures { λ r. ⌜ r ≡ delivery.reportHeard h x ⌝ }
 {
     match h {
@@ -61,7 +61,7 @@ pub fn report_heard(h: Hearing, x: Report) -> Report
 }
 
 // ROK or RNOK for a frame stored; RE for an error, with BOV where the frame did not fit.
-pub fn report_delivered(d: Delivery, x: Report, r: Reception) -> Report
+fn report_delivered(d: Delivery, x: Report, r: Reception) -> Report
     ensures { λ t. ⌜ t ≡ delivery.reportDelivered d x r ⌝ }
 {
     let w = r.winner;
@@ -104,7 +104,7 @@ pub fn report_sending(x: Report, s: Service) -> Report
 }
 
 // 0x05 after a sample; s is the service with its error counted.
-pub fn report_judged(w: Verdict, x: Report, s: Service) -> Report
+fn report_judged(w: Verdict, x: Report, s: Service) -> Report
     ensures { λ r. ⌜ r ≡ rule.reportJudged w x s ⌝ }
 {
     match w {
@@ -153,4 +153,24 @@ pub fn report_ended(e: Ending, x: Report, s: Service) -> Report
         Ending::Aborted => x,
         Ending::Rearbitrated => x,
     }
+}
+
+// ---- the sample
+
+// 0x07, then what the frame did, then 0x05 at an error, then the end of the service; s has the sample counted.
+pub fn report_after(
+    x: Report,
+    w: Verdict,
+    h: Hearing,
+    d: Delivery,
+    e: Ending,
+    r: Reception,
+    s: Service,
+) -> Report
+    ensures { λ t. ⌜ t ≡ rule.reportEnded e (rule.reportJudged w (delivery.reportDelivered d (delivery.reportHeard h x) r) s) s ⌝ }
+{
+    let a = report_heard(h, x);
+    let b = report_delivered(d, a, r);
+    let c = report_judged(w, b, s);
+    report_ended(e, c, s)
 }

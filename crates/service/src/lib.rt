@@ -1,33 +1,13 @@
-// The sending service: role, choice, start (01, Sending; 000, Retries).
+// The sending service: choice and start (01, Sending; 000, Retries).
 ghost use mathlib.Core.Path.{_≡_};
 ghost use Rattle.rules.specs.Service as rule;
 use registers::Map;
 use rules::Choice;
 use rules::Effort;
-use rules::Hearing;
 use rules::Line;
-use rules::Place;
-use rules::Progress;
 use rules::Reception;
-use rules::Role;
 use rules::Service;
 use rules::Stage;
-use rules::Verdict;
-
-// Sender from its first driven slot on, receiver of any other frame under way.
-pub fn role_of(p: Progress, here: Place) -> Role
-    ensures { λ r. ⌜ r ≡ rule.roleOf p here ⌝ }
-{
-    if stage::drives_frame(p) {
-        return Role::Sender;
-    }
-    if place::under_way(here) {
-        return Role::Receiver;
-    }
-    Role::Nobody
-}
-
-// ---- choice and start
 
 // The service of channel c: its frame and MR are copied now.
 fn chosen(m: &[u8; 256], c: u8) -> Service
@@ -91,19 +71,4 @@ pub fn started(s: Service, autonomous: bool, l: Line, r: Reception) -> Service
         return s;
     }
     s
-}
-
-// ---- the model's own frame, for the line
-
-// It goes on, is another's once lost, ends in an error, or ends well.
-pub fn hear_own(w: Verdict) -> Hearing
-    ensures { λ r. ⌜ r ≡ rule.hearOwn w ⌝ }
-{
-    match w {
-        Verdict::Unjudged => Hearing::Silent,
-        Verdict::Goes => Hearing::Follows,
-        Verdict::Lost => Hearing::Follows,
-        Verdict::Failed(code) => Hearing::Fault(code),
-        Verdict::Done => Hearing::Good,
-    }
 }

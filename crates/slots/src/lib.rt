@@ -2,6 +2,7 @@
 ghost use mathlib.Core.Path.{_≡_};
 ghost use lib.ListN.{getD};
 ghost use Rattle.rules.specs.Registers as registers_rule;
+ghost use Rattle.rules.specs.Service as service_rule;
 ghost use Rattle.rules.specs.Slots as rule;
 ghost use Rattle.rules.specs.Run as run;
 ghost use Rattle.rules.specs.Answers as answers;
@@ -10,6 +11,7 @@ use registers::Map;
 use rules::Coded;
 use rules::Core;
 use rules::CoreOutcome;
+use rules::Place;
 use rules::Progress;
 use rules::Reception;
 use rules::Refusal;
@@ -91,10 +93,23 @@ fn follows_on(m: &[u8; 256], k: Core) -> Core
 
 // ---- the level for the next slot
 
+// Sender from its first driven slot on, receiver of any other frame under way.
+fn role_of(p: Progress, here: Place) -> Role
+    ensures { λ r. ⌜ r ≡ service_rule.roleOf p here ⌝ }
+{
+    if stage::drives_frame(p) {
+        return Role::Sender;
+    }
+    if place::under_way(here) {
+        return Role::Receiver;
+    }
+    Role::Nobody
+}
+
 fn drives(p: Progress, here: Reception, frame: Coded) -> u8
     ensures { λ r. ⌜ r ≡ follow.driven p here frame ⌝ }
 {
-    let x = service::role_of(p, here.place);
+    let x = role_of(p, here.place);
     match x {
         Role::Nobody => 1,
         Role::Receiver => hearing::receiver_level(here),
@@ -132,7 +147,7 @@ fn answered(m: &[u8; 256], k: Core, level: u8) -> CoreOutcome
 pub fn slot_on(m: &mut [u8; 256], k: Core, levels: u16) -> CoreOutcome
     ensures { λ r. ⌜ answers.answerLent r (now (m .exit)) ≡ run.slot (answers.controller (now (m .entry)) k) levels ⌝ }
 {
-    if state::in_range(k) {
+    if ranges::in_range(k) {
         if 7 < levels {
             return CoreOutcome {
                 reply: Reply::Refused(Refusal::Levels),

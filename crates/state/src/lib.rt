@@ -1,17 +1,11 @@
-// The state but for the memory map: its modes and its ranges (01, Memory map; Numbers refused, 6).
+// The state but for the memory map: its modes, reset, a waiting idle (01, Memory map).
 ghost use mathlib.Core.Path.{_≡_};
 ghost use Rattle.rules.specs.State as rule;
 use registers::Map;
 use rules::Activity;
 use rules::Core;
-use rules::Effort;
-use rules::Line;
 use rules::Mode;
-use rules::Reception;
-use rules::Report;
-use rules::Retries;
 use rules::Service;
-use rules::Winner;
 
 // ---- modes
 
@@ -38,107 +32,6 @@ pub fn serving(s: Service) -> bool
 {
     let e = s.effort;
     stage::in_service(e.progress)
-}
-
-// ---- number 6: a state number outside its range, one by one
-
-fn winner_in_range(w: Winner) -> bool
-    ensures { λ r. ⌜ r ≡ rule.winnerInRange w ⌝ }
-{
-    if 13 < w.channel {
-        return false;
-    }
-    if 127 < w.pointer {
-        return false;
-    }
-    w.length <= 31
-}
-
-fn reception_in_range(r: Reception) -> bool
-    ensures { λ b. ⌜ b ≡ rule.receptionInRange r ⌝ }
-{
-    let p = r.place;
-    if 9 < p.at {
-        return false;
-    }
-    if 67 < r.nibbles {
-        return false;
-    }
-    if 15 < r.bits {
-        return false;
-    }
-    winner_in_range(r.winner)
-}
-
-fn effort_in_range(e: Effort) -> bool
-    ensures { λ r. ⌜ r ≡ rule.effortInRange e ⌝ }
-{
-    let f = e.frame;
-    let p = e.progress;
-    let c = e.counters;
-    let x = c.errors;
-    if 30 < f.n {
-        return false;
-    }
-    if 359 < p.at {
-        return false;
-    }
-    if 15 < x.0 {
-        return false;
-    }
-    e.setting <= 15
-}
-
-fn service_in_range(s: Service) -> bool
-    ensures { λ r. ⌜ r ≡ rule.serviceInRange s ⌝ }
-{
-    if 13 < s.channel {
-        return false;
-    }
-    effort_in_range(s.effort)
-}
-
-fn retries_in_range(x: Retries) -> bool
-    ensures { λ r. ⌜ r ≡ rule.retriesInRange x ⌝ }
-{
-    if 15 < x.count {
-        return false;
-    }
-    x.channel <= 13
-}
-
-fn report_in_range(x: Report) -> bool
-    ensures { λ r. ⌜ r ≡ rule.reportInRange x ⌝ }
-{
-    if retries_in_range(x.sending) {
-        if retries_in_range(x.message) {
-            return x.error <= 32;
-        }
-        return false;
-    }
-    false
-}
-
-fn line_in_range(l: Line) -> bool
-    ensures { λ r. ⌜ r ≡ rule.lineInRange l ⌝ }
-{
-    l.count <= 12
-}
-
-// Every number of the state is in its range.
-pub fn in_range(k: Core) -> bool
-    ensures { λ r. ⌜ r ≡ rule.inRange k ⌝ }
-{
-    if report_in_range(k.report) {
-        if line_in_range(k.line) {
-            if reception_in_range(k.reception) {
-                return service_in_range(k.service);
-            }
-            return false;
-        }
-        return false;
-    }
-    false
 }
 
 // ---- reset

@@ -1,5 +1,3 @@
-use mathlib.Core.Path.{refl}
-use borrow.Author.Tests.{lt-ltb, le-ltb, le-leb, lt-leb, eq-eqb, ne-eqb}
 use Rattle.rules.specs.State.{serving}
 use Rattle.state.proofs.serving.Statement.{statement}
 use Rattle.state.proofs.serving.Tie as tie
@@ -9,4 +7,4 @@ unfolding serving
 serving-spec =
     tie.close (tie.spec
     (λ c κs. tt)
-    (λ c. simp (← (c .in-service .ensures))))
+    (λ c. rw (c .in-service .ensures)))

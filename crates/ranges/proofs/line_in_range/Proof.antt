@@ -1,0 +1,12 @@
+use borrow.Author.Needs.{needs}
+use mathlib.Core.Path.{refl}
+use borrow.Author.Tests.{lt-ltb, le-ltb, le-leb, lt-leb, eq-eqb, ne-eqb}
+use Rattle.rules.specs.State.{lineInRange}
+use Rattle.ranges.proofs.line_in_range.Statement.{statement}
+use Rattle.ranges.proofs.line_in_range.Tie as tie
+
+pub line-in-range-spec : {M : Type 1} → statement M
+unfolding lineInRange
+line-in-range-spec =
+    tie.close (tie.spec
+    (λ c. refl))

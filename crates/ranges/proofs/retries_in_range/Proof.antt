@@ -1,0 +1,13 @@
+use borrow.Author.Needs.{needs}
+use mathlib.Core.Path.{refl}
+use borrow.Author.Tests.{lt-ltb, le-ltb, le-leb, lt-leb, eq-eqb, ne-eqb}
+use Rattle.rules.specs.State.{retriesInRange}
+use Rattle.ranges.proofs.retries_in_range.Statement.{statement}
+use Rattle.ranges.proofs.retries_in_range.Tie as tie
+
+pub retries-in-range-spec : {M : Type 1} → statement M
+unfolding retriesInRange
+retries-in-range-spec =
+    tie.close (tie.spec
+    (λ c. simp (lt-leb _ _ (c .if1 .taken)))
+    (λ c. simp (le-leb _ _ (c .before .if1 .left))))

@@ -1,0 +1,13 @@
+use Rattle.rules.specs.Service.{roleOf}
+use Rattle.slots.proofs.role_of.Statement.{statement}
+use Rattle.slots.proofs.role_of.Tie as tie
+
+pub role-of-spec : {M : Type 1} → statement M
+unfolding roleOf
+role-of-spec =
+    tie.close (tie.spec
+    (λ c κs. tt)
+    (λ c. simp (c .if1 .taken, ← (c .before .drives-frame .ensures)))
+    (λ c κs. tt)
+    (λ c. simp (c .if2 .taken, c .before .before .if1 .left, ← (c .before .under-way .ensures), ← (c .before .before .before .drives-frame .ensures)))
+    (λ c. simp (c .if2 .left, c .before .before .if1 .left, ← (c .before .under-way .ensures), ← (c .before .before .before .drives-frame .ensures))))
