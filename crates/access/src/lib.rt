@@ -32,7 +32,7 @@ pub fn host_read(c: Controller, address: u16) -> Outcome
     ensures { λ r. ⌜ answers.answerOf r ≡ run.step c (event.Read address) ⌝ }
 {
     let mut t = c;
-    let x = host::host_read_on(&t.memory, c.core, address);
+    let x = host_read::host_read_on(&t.memory, c.core, address);
     let k = x.next;
     t.core = k;
     let reply = x.reply;

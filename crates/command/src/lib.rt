@@ -54,7 +54,7 @@ fn slept(k: Core) -> Core
 fn idle_asked(k: Core) -> Core
     ensures { λ r. ⌜ r ≡ core.idleAsked k ⌝ }
 {
-    if state::is_active(k.activity) {
+    if modes::is_active(k.activity) {
         let mut t = k;
         let activity = Activity {
             mode: Mode::Active,
@@ -76,7 +76,7 @@ fn activated(k: Core) -> Core
         waiting: false,
     };
     t.activity = activity;
-    if state::is_active(k.activity) {
+    if modes::is_active(k.activity) {
         return t;
     }
     t.line = free_line::unsettled();

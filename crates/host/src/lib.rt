@@ -1,88 +1,16 @@
-// Pin reset and host access over a lent memory map: registers, refusals (01, Memory map; Numbers refused).
+// Pin reset and host write over a lent memory map, and their refusals (01, Memory map; Numbers refused).
 ghost use mathlib.Core.Path.{_≡_};
 ghost use Prim.Native.Nat.{_%_};
 ghost use lib.Dec.{eqb};
 ghost use Rattle.line.specs.Bits.{pick};
 ghost use Rattle.rules.specs.Host as rule;
-ghost use Rattle.rules.specs.State as core;
 ghost use Rattle.rules.specs.Run as run;
 ghost use Rattle.rules.specs.Answers as answers;
 use registers::Map;
-use rules::Activity;
 use rules::Core;
 use rules::CoreOutcome;
-use rules::Mode;
 use rules::Refusal;
 use rules::Reply;
-
-// ---- modes
-
-fn is_asleep(a: Activity) -> bool
-    ensures { λ r. ⌜ r ≡ core.isAsleep (a .mode) ⌝ }
-{
-    let mode = a.mode;
-    match mode {
-        Mode::Idle => false, // it answers the host
-        Mode::Active => false,
-        Mode::Asleep => true,
-    }
-}
-
-fn is_idle(a: Activity) -> bool
-    ensures { λ r. ⌜ r ≡ core.isIdle (a .mode) ⌝ }
-{
-    let mode = a.mode;
-    match mode {
-        Mode::Idle => true,
-        Mode::Active => false, // even while an idle waits
-        Mode::Asleep => false,
-    }
-}
-
-// ---- an accepted read
-
-fn line_status_of(k: Core) -> u8
-    ensures { λ r. ⌜ r ≡ rule.lineStatusOf k ⌝ }
-{
-    let r = k.reception;
-    status::line_status(
-        is_asleep(k.activity),
-        is_idle(k.activity),
-        state::serving(k.service),
-        place::under_way(r.place),
-    )
-}
-
-// The byte of a register that the controller writes.
-fn status_read(k: Core, address: usize) -> u8
-    ensures { λ r. ⌜ r ≡ rule.statusRead k address ⌝ }
-{
-    let x = k.report;
-    if address == Map::LINE_STATUS {
-        return line_status_of(k);
-    }
-    if address == Map::TRANSMISSION_STATUS {
-        return status::retries_byte(x.sending);
-    }
-    if address == Map::LAST_MESSAGE_STATUS {
-        return status::retries_byte(x.message);
-    }
-    if address == Map::LAST_ERROR_STATUS {
-        return x.error;
-    }
-    status::interrupt_status(x.flags)
-}
-
-fn byte_read(m: &[u8; 256], k: Core, address: usize) -> u8
-    ensures { λ r. ⌜ r ≡ rule.byteRead (answers.controller (now (m .entry)) k) address ⌝ }
-{
-    if Map::read_only(address) {
-        return status_read(k, address);
-    }
-    m[address % 256]
-}
-
-// ---- the calls
 
 // Pin reset: 6.
 pub fn pin_reset_on(m: &mut [u8; 256], k: Core) -> CoreOutcome
@@ -143,7 +71,7 @@ pub fn host_write_on(m: &mut [u8; 256], k: Core, address: u16, value: u16) -> Co
     ensures { λ r. ⌜ answers.answerLent r (now (m .exit)) ≡ run.hostWrite (answers.controller (now (m .entry)) k) address value ⌝ }
 {
     if ranges::in_range(k) {
-        if is_asleep(k.activity) {
+        if modes::is_asleep(k.activity) {
             return CoreOutcome {
                 reply: Reply::Refused(Refusal::Asleep),
                 next: k,
@@ -156,54 +84,6 @@ pub fn host_write_on(m: &mut [u8; 256], k: Core, address: u16, value: u16) -> Co
             };
         }
         return write_on(m, k, address, value);
-    }
-    CoreOutcome {
-        reply: Reply::Refused(Refusal::Range),
-        next: k,
-    }
-}
-
-// 4, once the access is open.
-fn read_on(m: &[u8; 256], k: Core, address: u16) -> CoreOutcome
-    ensures { λ r. ⌜ answers.answerLent r (now (m .entry)) ≡ pick (eqb (rule.readRefused address) 0) (run.accept (rule.byteRead (answers.controller (now (m .entry)) k) address) (answers.controller (now (m .entry)) k)) (run.refuse (answers.controller (now (m .entry)) k) (rule.readRefused address)) ⌝ }
-{
-    let a = address as usize;
-    if Map::write_only(a) {
-        return CoreOutcome {
-            reply: Reply::Refused(Refusal::Unreadable),
-            next: k,
-        };
-    }
-    if Map::reserved(a) {
-        return CoreOutcome {
-            reply: Reply::Refused(Refusal::Unreadable),
-            next: k,
-        };
-    }
-    CoreOutcome {
-        reply: Reply::Accepted(byte_read(m, k, a)),
-        next: k,
-    }
-}
-
-// A host read: 6, 7, 1, 4.
-pub fn host_read_on(m: &[u8; 256], k: Core, address: u16) -> CoreOutcome
-    ensures { λ r. ⌜ answers.answerLent r (now (m .entry)) ≡ run.hostRead (answers.controller (now (m .entry)) k) address ⌝ }
-{
-    if ranges::in_range(k) {
-        if is_asleep(k.activity) {
-            return CoreOutcome {
-                reply: Reply::Refused(Refusal::Asleep), // 7 before 1
-                next: k,
-            };
-        }
-        if 255 < address {
-            return CoreOutcome {
-                reply: Reply::Refused(Refusal::Address),
-                next: k,
-            };
-        }
-        return read_on(m, k, address);
     }
     CoreOutcome {
         reply: Reply::Refused(Refusal::Range),

@@ -39,7 +39,7 @@ fn answer(m: &mut [u8; 256], k: Core, e: Event) -> CoreOutcome
     match e {
         Event::Reset => host::pin_reset_on(m, k),
         Event::Write(address, value) => host::host_write_on(m, k, address, value),
-        Event::Read(address) => host::host_read_on(m, k, address),
+        Event::Read(address) => host_read::host_read_on(m, k, address),
         Event::Slot(levels) => slots::slot_on(m, k, levels),
         Event::Mark(_) => CoreOutcome {
             reply: Reply::Accepted(0),

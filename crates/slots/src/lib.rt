@@ -27,7 +27,7 @@ fn chooses(k: Core) -> bool
     ensures { λ r. ⌜ r ≡ rule.chooses k ⌝ }
 {
     let r = k.reception;
-    if state::is_active(k.activity) {
+    if modes::is_active(k.activity) {
         if state::serving(k.service) {
             return false;
         }
@@ -154,7 +154,7 @@ pub fn slot_on(m: &mut [u8; 256], k: Core, levels: u16) -> CoreOutcome
                 next: k,
             };
         }
-        if state::is_active(k.activity) {
+        if modes::is_active(k.activity) {
             let t = active_slot(m, k, levels);
             let p = t.service.effort.progress;
             let here = t.reception;

@@ -9,17 +9,6 @@ use rules::Service;
 
 // ---- modes
 
-pub fn is_active(a: Activity) -> bool
-    ensures { λ r. ⌜ r ≡ rule.isActive (a .mode) ⌝ }
-{
-    let mode = a.mode;
-    match mode {
-        Mode::Idle => false,
-        Mode::Active => true,
-        Mode::Asleep => false, // a slot changes nothing
-    }
-}
-
 fn in_mode(mode: Mode, waiting: bool) -> Activity
     ensures { λ r. ⌜ r ≡ rule.inMode mode waiting ⌝ }
 {

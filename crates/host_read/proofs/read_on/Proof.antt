@@ -3,8 +3,8 @@ use borrow.Author.Tests.{lt-ltb, le-ltb, le-leb, lt-leb, eq-eqb, ne-eqb}
 use Rattle.rules.specs.Answers.{answerLent, number, refusedBy, valueOf}
 use Rattle.rules.specs.Host.{readRefused, byteRead}
 use Rattle.rules.specs.Run.{accept, refuse}
-use Rattle.host.proofs.read_on.Statement.{statement}
-use Rattle.host.proofs.read_on.Tie as tie
+use Rattle.host_read.proofs.read_on.Statement.{statement}
+use Rattle.host_read.proofs.read_on.Tie as tie
 
 pub read-on-spec : {M : Type 1} → statement M
 unfolding answerLent number refusedBy valueOf readRefused byteRead accept refuse

@@ -1,13 +1,13 @@
 use borrow.Author.Needs.{needs}
 use mathlib.Core.Path.{refl}
 use borrow.Author.Tests.{lt-ltb, le-ltb, le-leb, lt-leb, eq-eqb, ne-eqb}
-use Rattle.rules.specs.State.{isActive}
-use Rattle.state.proofs.is_active.Statement.{statement}
-use Rattle.state.proofs.is_active.Tie as tie
+use Rattle.rules.specs.State.{isAsleep}
+use Rattle.modes.proofs.is_asleep.Statement.{statement}
+use Rattle.modes.proofs.is_asleep.Tie as tie
 
-pub is-active-spec : {M : Type 1} → statement M
-unfolding isActive
-is-active-spec =
+pub is-asleep-spec : {M : Type 1} → statement M
+unfolding isAsleep
+is-asleep-spec =
     tie.close (tie.spec
     (λ c. search needs)
     (λ c. search needs)

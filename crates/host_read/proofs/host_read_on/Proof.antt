@@ -3,8 +3,8 @@ use borrow.Author.Tests.{lt-ltb, le-ltb, le-leb, lt-leb, eq-eqb, ne-eqb}
 use Rattle.rules.specs.Answers.{answerLent, number, refusedBy, valueOf}
 use Rattle.rules.specs.Run.{hostRead, accept, refuse}
 use Rattle.rules.specs.Host.{accessRefused, readRefused}
-use Rattle.host.proofs.host_read_on.Statement.{statement}
-use Rattle.host.proofs.host_read_on.Tie as tie
+use Rattle.host_read.proofs.host_read_on.Statement.{statement}
+use Rattle.host_read.proofs.host_read_on.Tie as tie
 
 pub host-read-on-spec : {M : Type 1} → statement M
 unfolding answerLent number refusedBy valueOf hostRead accept refuse accessRefused readRefused

@@ -1,8 +1,8 @@
 use mathlib.Core.Path.{refl}
 use borrow.Author.Tests.{lt-ltb, le-ltb, le-leb, lt-leb, eq-eqb, ne-eqb}
 use Rattle.rules.specs.Host.{statusRead}
-use Rattle.host.proofs.status_read.Statement.{statement}
-use Rattle.host.proofs.status_read.Tie as tie
+use Rattle.host_read.proofs.status_read.Statement.{statement}
+use Rattle.host_read.proofs.status_read.Tie as tie
 
 pub status-read-spec : {M : Type 1} → statement M
 unfolding statusRead
