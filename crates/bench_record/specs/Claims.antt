@@ -7,7 +7,6 @@ use lib.ListN.{length, take}
 use Rattle.number.specs.Number.{Bytes, written}
 use Rattle.session.specs.declared.Fault.{Fault}
 use Rattle.session.specs.declared.Event.{Event}
-use Rattle.session.specs.declared.End.{End}
 use Rattle.session.specs.declared.End.the-variants.{Bad}
 use Rattle.session.specs.Reading.{longest, Events, Reading, NoHeader, Counted, session, eventsAt}
 use Rattle.session.specs.Writing.{eventsBytes, AllFit}

@@ -1,7 +1,7 @@
 -- Laws: the listing line by line, and laid in lent room line by line.
 use Prim.Native.Nat.{ℕ, suc, _+_, _-_, _≤_, _<_}
 use mathlib.Core.Bool.{Bool, true, false}
-use mathlib.Core.List.{List, [], _∷_, _++_, append-assoc}
+use mathlib.Core.List.{List, _++_, append-assoc}
 use mathlib.Core.Path.{_≡_, refl, ap, sym, _∙_}
 use native.Mathlib.Nat.{zero-add, sub-zero}
 use native.Mathlib.Omega.{arith}
@@ -18,7 +18,6 @@ use Rattle.session.specs.declared.Number.the-variants.{Value, Bad as BadNumber}
 use Rattle.session.specs.declared.Header.{Header}
 use Rattle.session.specs.declared.Header.the-variants.{Good, Bad as BadHeader}
 use Rattle.session.specs.declared.Item.the-variants.{Next, Bad as BadItem}
-use Rattle.session.specs.declared.End.the-variants.{Bad as BadEnd}
 use Rattle.session.specs.Reading.{longest, faultNumber, numberAt, counted, versioned, headerAt, eventAt, endAt, eventsAt}
 use Rattle.session.specs.Walk.{no-header, counts, none-due, stops, goes-on}
 use Rattle.rules.specs.Run.{fresh}

@@ -1,18 +1,18 @@
 -- The receiver and the decoder agree (demand 2): over a list of slots and a memory map that lies still.
 --   receives == the receiver ends a good frame in the last of the slots, and no sooner        Accepted == the slots decode to a frame that is valid for who takes it
-use Prim.Native.Nat.{ℕ, zero, suc, _+_, _*_, _≤_, _<_}
+use Prim.Native.Nat.{ℕ, _+_, _≤_, _<_}
 use mathlib.Core.Bool.{Bool, true, false, false≢true}
 use mathlib.Core.List.{List, [], _∷_, _++_, append-assoc}
 use mathlib.Core.Path.{_≡_, refl, sym, _∙_, ap, subst}
 use native.Mathlib.Omega.{arith}
 use borrow.Author.Tests.{eqb-false, ltb-true, ltb-false}
 use lib.Dec.{eqb, ltb, eqb·suc-zero}
-use lib.ListN.{length, getD, length-append}
+use lib.ListN.{length, length-append}
 use Rattle.line.specs.Bits.{pick, Below, none, one}
 use Rattle.line.specs.Frame.{Frame, Fits, slots, size}
 use Rattle.line.specs.Laws.{slots-length}
-use Rattle.codec.specs.Decode.{Reading, frame, reading}
-use Rattle.codec.specs.Claims.{Codec, codec}
+use Rattle.codec.specs.Decode.{frame, reading}
+use Rattle.codec.specs.Claims.{codec}
 use Rattle.rules.specs.Channels.{nobody, winnerFor}
 use Rattle.rules.specs.Reception.{begun}
 use Rattle.rules.specs.Hearing.{hearFrame}

@@ -4,13 +4,13 @@
 use Prim.Native.Nat.{ℕ, _≤_}
 use mathlib.Core.Bool.{true}
 use mathlib.Core.List.{List, [], _∷_, _++_}
-use mathlib.Core.Path.{_≡_, refl, sym, _∙_, ap, subst}
+use mathlib.Core.Path.{_≡_, sym, _∙_, ap, subst}
 use native.Mathlib.Omega.{arith}
 use lib.ListN.{getD}
 use Rattle.line.specs.Frame.{Frame, Fits, slots}
 use Rattle.codec.specs.declared.Refusal.{Refusal}
-use Rattle.codec.specs.Decode.{Reading, frame, refused, reading}
-use Rattle.codec.specs.Claims.{Codec, codec}
+use Rattle.codec.specs.Decode.{frame, refused, reading}
+use Rattle.codec.specs.Claims.{codec}
 use Rattle.rules.specs.Valid.{Valid}
 use Rattle.rules.specs.State.{isActive}
 use Rattle.rules.specs.Slots.{sampleOf}

@@ -9,7 +9,6 @@ use Rattle.rules.specs.State.{inRange, isActive, isAsleep}
 use Rattle.rules.specs.Host.{accessRefused, writeRefused, readRefused, resetAll, written, byteRead}
 use Rattle.rules.specs.Slots.{activeSlot}
 use Rattle.rules.specs.Run.{refuse, accept, pinReset, hostWrite, hostRead, answered, restedSlot, slot, step}
-use Rattle.rules.specs.declared.Answer.{Answer}
 use Rattle.rules.specs.declared.Controller.{Controller}
 use Rattle.rules.specs.declared.Event.the-variants.{Reset, Write, Read, Slot}
 

@@ -2,7 +2,6 @@
 --   number       == 01's number of a refusal
 --   laid         == what is answered, laid over lent room: "Lent room past an answer keeps its bytes"
 use Prim.Native.Nat.{ℕ}
-use mathlib.Core.Bool.{Bool, true, false}
 use mathlib.Core.List.{List, _++_}
 use lib.ListN.{length, drop}
 use Rattle.codec.specs.declared.Refusal.{Refusal}

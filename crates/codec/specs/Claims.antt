@@ -4,8 +4,7 @@ use mathlib.Core.List.{List}
 use mathlib.Core.Logic.{_↔_}
 use mathlib.Core.Path.{_≡_, sym, _∙_, ap}
 use Rattle.line.specs.Frame.{Frame, Fits, slots}
-use Rattle.codec.specs.declared.Refusal.{Refusal}
-use Rattle.codec.specs.Decode.{Reading, frame, refused, reading}
+use Rattle.codec.specs.Decode.{frame, reading}
 use Rattle.codec.specs.RoundTrip.{slots-read, read-is}
 
 pub record Codec (longest : ℕ) : Type 0 where

@@ -1,6 +1,7 @@
 // Runs every case of its input through the codec and writes the case with what the codec gives.
 use codec::Decoded;
 use codec::Encoded;
+use codec::Head;
 use codec::Refusal;
 ghost use Prim.Native.Nat.{_≤_};
 ghost use lib.ListN.{length};
@@ -37,18 +38,24 @@ fn front(s: &mut [u8], n: usize) -> &mut [u8] {
     s
 }
 
-// The word that starts at `at`, up to the next blank.
-fn word(s: &[u8], at: usize) -> &[u8] {
-    part(s, at, find(s, at, b' '))
-}
-
-// The place behind that word and its blank.
+// The place behind the word at `at` and its blank.
 fn behind(s: &[u8], at: usize) -> usize {
     let e = find(s, at, b' ');
     if e < s.len() {
         return e + 1;
     }
     e
+}
+
+// Word k of a line, from 0 on; nothing where there are fewer.
+fn word(s: &[u8], k: u8) -> &[u8] {
+    let mut at = 0;
+    let mut n = 0u8;
+    while n < k {
+        at = behind(s, at);
+        n += 1;
+    }
+    part(s, at, find(s, at, b' '))
 }
 
 fn decimal(s: &[u8]) -> u32 {
@@ -59,6 +66,11 @@ fn decimal(s: &[u8]) -> u32 {
         i += 1;
     }
     x
+}
+
+// Word k as a number.
+fn number(s: &[u8], k: u8) -> u32 {
+    decimal(word(s, k))
 }
 
 fn digit(b: u8) -> u8 {
@@ -131,26 +143,25 @@ fn say_bytes(s: &[u8]) {
 
 // encode IDENTIFIER COMMAND DATA ACKNOWLEDGE ROOM
 fn encode_case(s: &[u8]) {
-    let a = behind(s, 0);
-    let b = behind(s, a);
-    let c = behind(s, b);
-    let d = behind(s, c);
-    let e = behind(s, d);
     let mut data = [0u8; 80];
     let mut slots = [0u8; 512];
-    let n = read_bytes(word(s, c), &mut data);
-    let room = decimal(word(s, e)) as usize;
-    let answer = encoder::encode(
-        decimal(word(s, a)),
-        decimal(word(s, b)),
-        part(&data, 0, n),
-        decimal(word(s, d)) == 1,
-        front(&mut slots, room),
-    );
-    match answer {
+    let n = read_bytes(word(s, 3), &mut data);
+    match encode_words(s, part(&data, 0, n), &mut slots) {
         Encoded::Refused(r) => say_refused(r),
         Encoded::Slots(k) => say_slots(part(&slots, 0, k)),
     }
+}
+
+fn encode_words(s: &[u8], bytes: &[u8], slots: &mut [u8]) -> Encoded {
+    let acknowledge = number(s, 4) == 1;
+    let room = number(s, 5) as usize;
+    encoder::encode(
+        number(s, 1),
+        number(s, 2),
+        bytes,
+        acknowledge,
+        front(slots, room),
+    )
 }
 
 fn say_flag(b: bool) {
@@ -163,42 +174,45 @@ fn say_flag(b: bool) {
 
 // decode SLOTS ROOM
 fn decode_case(s: &[u8]) {
-    let a = behind(s, 0);
-    let b = behind(s, a);
     let mut slots = [0u8; 512];
     let mut data = [0u8; 80];
-    let n = read_slots(word(s, a), &mut slots);
-    let room = decimal(word(s, b)) as usize;
+    let n = read_slots(word(s, 1), &mut slots);
+    let room = number(s, 2) as usize;
     match decoder::decode(part(&slots, 0, n), front(&mut data, room)) {
         Decoded::Refused(r) => say_refused(r),
-        Decoded::Accepted(h) => {
-            io::print_decimal(1, h.identifier as u64);
-            io::write_all(1, b" ");
-            io::print_decimal(1, h.command as u64);
-            io::write_all(1, b" ");
-            say_bytes(part(&data, 0, h.count as usize));
-            say_flag(h.acknowledge);
-        }
+        Decoded::Accepted(h) => say_frame(h, &data),
     }
+}
+
+fn say_frame(h: Head, data: &[u8]) {
+    io::print_decimal(1, h.identifier as u64);
+    io::write_all(1, b" ");
+    io::print_decimal(1, h.command as u64);
+    io::write_all(1, b" ");
+    say_bytes(part(data, 0, h.count as usize));
+    say_flag(h.acknowledge);
 }
 
 // captured IDENTIFIER COMMAND DATA: the check that stands in the encoded frame, followed by a zero bit
 fn captured_case(s: &[u8]) {
-    let a = behind(s, 0);
-    let b = behind(s, a);
-    let c = behind(s, b);
     let mut data = [0u8; 80];
     let mut slots = [0u8; 512];
-    let n = read_bytes(word(s, c), &mut data) % 31;
+    let n = read_bytes(word(s, 3), &mut data) % 31;
     let _ = encoder::encode(
-        decimal(word(s, a)),
-        decimal(word(s, b)),
+        number(s, 1),
+        number(s, 2),
         part(&data, 0, n),
         true,
         &mut slots,
     );
-    let at = 30 + 10 * n;
-    say_bytes(&[byte_at(&slots, at), byte_at(&slots, at + 10)]);
+    say_check(&slots, 30 + 10 * n);
+}
+
+// The two bytes whose line code begins at `at`.
+fn say_check(slots: &[u8], at: usize) {
+    if at < slots.len() {
+        say_bytes(&[byte_at(slots, at), byte_at(slots, at + 10)]);
+    }
 }
 
 // The number that four slots write.
@@ -222,7 +236,7 @@ fn byte_at(s: &[u8], at: usize) -> u8 {
 // bytes DATA: the check of the bytes alone
 fn bytes_case(s: &[u8]) {
     let mut data = [0u8; 80];
-    let n = read_bytes(word(s, behind(s, 0)), &mut data);
+    let n = read_bytes(word(s, 1), &mut data);
     let check = 32767 - frame_check::check_bytes(32767, part(&data, 0, n)) % 32768;
     say_bytes(&[(check / 256) as u8, (check % 256) as u8]);
 }
@@ -241,6 +255,11 @@ fn case(s: &[u8]) {
     }
     io::write_all(1, part(s, 0, e));
     io::write_all(1, b"= ");
+    answer(s, kind);
+}
+
+// What the codec gives, by the first letter of the case.
+fn answer(s: &[u8], kind: u8) {
     if kind == b'e' {
         encode_case(s);
         return;

@@ -8,7 +8,7 @@ use native.Mathlib.Numerals.{add-one}
 use native.Mathlib.Omega.{arith}
 use lib.Dec.{eqb, ltb, leb}
 use lib.ListN.{getD, set, length, take, drop, length-drop, drop-of-length-le}
-use lib.Seq.{drop-cons, take-at, drop-at, sets}
+use lib.Seq.{take-at, drop-at, sets}
 use borrow.Author.Tests.{eqb-true, leb-true, lt-ltb, le-ltb}
 use Rattle.line.specs.Bits.{pick, number, written, Below, none, one}
 use Rattle.line.specs.Check.{checkBit, remainder, check, allOnes}
@@ -18,7 +18,6 @@ use Rattle.codec.specs.declared.Refusal.{Refusal}
 use Rattle.codec.specs.declared.Refusal.the-variants.{Level, Start, Pair, Length, Check, Acknowledge, EndOfFrame, CutShort, LeftOver, Room}
 use Rattle.codec.specs.declared.Head.{Head}
 use Rattle.codec.specs.declared.Decoded.the-variants.{Accepted, Refused}
-use Rattle.codec.specs.Answer.{laid}
 use Rattle.codec.specs.Laws.{laid-sets}
 use Rattle.codec.specs.Decode.{Read, read, fault, Reading, frame, refused, after, levels, expected, most, nibbles, whole, plainRun, pairAt, right, secondSlot, acknowledged, bytesOf, frameOf, headOf, ended, closing, judged, reading, decoded, decodedRoom}
 use Rattle.codec.specs.RoundTrip.{both, bytes-long}

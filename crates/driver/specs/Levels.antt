@@ -4,14 +4,14 @@ use mathlib.Core.Bool.{Bool, true, false}
 use mathlib.Core.List.{List, [], _∷_, _++_}
 use mathlib.Core.Path.{_≡_, refl, ap, _∙_, sym}
 use native.Mathlib.Omega.{arith}
-use lib.Dec.{eqb, ltb}
+use lib.Dec.{ltb}
 use lib.ListN.{length, length-append, getD, take, replicate, List·getD-append}
 use lib.Seq.{getD-append-add, getD-take, length-take-le}
-use borrow.Author.Tests.{ltb-true, ltb-false, lt-ltb, le-ltb, eq-eqb}
-use Rattle.line.specs.Bits.{pick, bits}
+use borrow.Author.Tests.{ltb-true, ltb-false}
+use Rattle.line.specs.Bits.{bits}
 use Rattle.line.specs.LineCode.{lineCode, pattern}
 use Rattle.line.specs.Frame.{byteBits, start, endOfData, endOfFrame, acknowledgeSlots}
-use Rattle.line.specs.Laws.{bits-length, bits-split, bits-mod, code-length, code-at, code-append, pattern-slots, picked}
+use Rattle.line.specs.Laws.{bits-length, bits-split, bits-mod, code-length, code-at, pattern-slots, picked}
 use Rattle.rules.specs.Attempt.{sentSlots, levelAt}
 use Rattle.driver.specs.Driver.{startLevel, slotOf, nibbleAt, codedLevel, placed, framed}
 

@@ -1,9 +1,9 @@
 -- Slots laid into lent room, one part after another.
-use Prim.Native.Nat.{ℕ, zero, suc, _+_, _-_, _*_, _/_, _%_, _^_, _≤_, _<_}
+use Prim.Native.Nat.{ℕ, suc, _+_, _-_, _*_, _/_, _%_, _≤_, _<_}
 use mathlib.Core.Bool.{Bool, true}
 use mathlib.Core.List.{List, [], _∷_, _++_, append-assoc}
-use mathlib.Core.Path.{_≡_, refl, ap, _∙_, sym}
-use native.Mathlib.Nat.{zero-add, add-zero, div-one}
+use mathlib.Core.Path.{_≡_, ap, _∙_, sym}
+use native.Mathlib.Nat.{add-zero, div-one}
 use native.Mathlib.Numerals.{add-one, add-two, add-three, add-four}
 use native.Mathlib.Omega.{arith}
 use lib.ListN.{getD, set, length, drop, length-append, drop-of-length-le}
@@ -11,7 +11,7 @@ use lib.Seq.{sets}
 use Rattle.line.specs.Bits.{bits}
 use Rattle.line.specs.LineCode.{lineCode, pattern}
 use Rattle.line.specs.Check.{check, remainder, allOnes}
-use Rattle.line.specs.Frame.{Frame, byteBits, covered, carried, start, endOfData, endOfFrame, acknowledgeSlots, slots}
+use Rattle.line.specs.Frame.{byteBits, covered, carried, start, endOfData, endOfFrame, acknowledgeSlots, slots}
 use Rattle.line.specs.Laws.{next, header-bits, bits-length, bits-split, bits-mod, code-append, code-length, pattern-slots, remainder-append, covered-length}
 use Rattle.codec.specs.Encode.{given}
 

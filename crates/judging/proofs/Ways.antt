@@ -4,6 +4,7 @@ use mathlib.Core.Bool.{Bool, true, false, false≢true}
 use mathlib.Core.List.{List}
 use mathlib.Core.Path.{_≡_, refl, sym, _∙_, ap}
 use Rattle.line.specs.Bits.{pick}
+use Rattle.line.specs.Laws.{pick-same}
 use Rattle.rules.specs.Registers.{both}
 use Rattle.rules.specs.Delivery.{deliveryOf, deliveryTo, memoryDelivered, reportHeard, reportDelivered}
 use Rattle.rules.specs.Attempt.{advance, drivesFrame, judge}
@@ -37,10 +38,6 @@ going Sent e = absurd (false≢true (unfold goes in e))
 going Exhausted e = absurd (false≢true (unfold goes in e))
 going Aborted e = absurd (false≢true (unfold goes in e))
 going Rearbitrated e = absurd (false≢true (unfold goes in e))
-
-pick-same : {A : Type 0} (b : Bool) (a : A) → pick b a a ≡ a
-pick-same true a = refl
-pick-same false a = refl
 
 undelivered : (h : Hearing) (r : Reception) → passes h ≡ true → deliveryOf h r ≡ Nothing
 unfolding deliveryOf deliveryTo passes

@@ -33,9 +33,6 @@ struct Effects {
     service: Service,
 }
 
-// The longest data field.
-const LONGEST: u8 = 30;
-
 // ---- what a sample is
 
 // The model's own frame, for the line: it goes on, is another's once lost, ends in an error, or ends well.
@@ -58,7 +55,7 @@ fn heard(k: Core, v: u8) -> Hearing
 {
     let r = k.reception;
     if place::under_way(r.place) {
-        return hearing::hear_frame(r, LONGEST, v);
+        return hearing::hear_frame(r, line::LONGEST, v);
     }
     hearing::hear_quiet(k.line, v)
 }

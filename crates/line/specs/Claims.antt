@@ -1,9 +1,9 @@
 -- What is claimed of frames on the line, over every frame and every slot; and the marked cases P1 to P5 (01, Marked cases).
-use Prim.Native.Nat.{ℕ, _<_}
+use Prim.Native.Nat.{ℕ}
 use mathlib.Core.List.{[], _∷_}
 use mathlib.Core.Path.{_≡_, refl, _∙_, ap}
 use lib.ListN.{length, getD}
-use Rattle.line.specs.Bits.{bits, number, written}
+use Rattle.line.specs.Bits.{bits}
 use Rattle.line.specs.LineCode.{lineCode, pattern}
 use Rattle.line.specs.Frame.{Frame, slots, size}
 use Rattle.line.specs.Layout.{levelOf}

@@ -2,8 +2,8 @@
 use Prim.Native.Nat.{ℕ, zero, suc, _+_, _-_, _*_, _/_, _%_, _^_, _≤_, _<_, min}
 use mathlib.Core.Bool.{Bool, true, false}
 use mathlib.Core.List.{List, [], _∷_, _++_, append-assoc}
-use mathlib.Core.Path.{_≡_, refl, ap, _∙_, sym, subst}
-use native.Mathlib.Nat.{zero-add, suc-add, add-zero, mul-one, mod-one, mul-comm, mul-le-mul-right, div-div-eq-div-mul, pow-suc, mod-lt, mod-eq-of-lt, mul-add-div-right, div-eq-of-lt}
+use mathlib.Core.Path.{_≡_, refl, ap, _∙_, sym}
+use native.Mathlib.Nat.{zero-add, suc-add, add-zero, mod-one, mul-comm, mul-le-mul-right, div-div-eq-div-mul, pow-suc, mod-lt, mod-eq-of-lt, mul-add-div-right, div-eq-of-lt}
 use native.Mathlib.Omega.{arith}
 use lib.Pow.{pow-add, pow-pos, mod-pow-add}
 use lib.Bits.{bitXor, xor-lt}
@@ -230,6 +230,10 @@ slots-length f =
 pub picked : {A : Type 0} (P : A → Type 0) (t : Bool) (a b : A) → (t ≡ true → P a) → (t ≡ false → P b) → P (pick t a b)
 picked P true a b yes′ no′ = yes′ refl
 picked P false a b yes′ no′ = no′ refl
+
+pub pick-same : {A : Type 0} (t : Bool) (a : A) → pick t a a ≡ a
+pick-same true a = refl
+pick-same false a = refl
 
 -- end of data, acknowledge and end of frame
 abbrev closing : Bool → List ℕ

@@ -25,6 +25,9 @@ pub enum Half {
     Second,
 }
 
+// The most data bytes of a frame.
+pub const LONGEST: u8 = 30;
+
 // The five slots of each nibble, the first slot highest.
 const PATTERNS: [u8; 16] = [
     0b00001,

@@ -1,7 +1,7 @@
 -- 01, Session and listing: the lines of a listing, as bytes.
 --   decimal, hexadecimal == numerals        line == the line of an event with its answer        eventsLine, badLine, endLine == the other lines
 use Prim.Native.Nat.{ℕ, zero, suc, _+_, _/_, _%_}
-use mathlib.Core.Bool.{Bool, true, false}
+use mathlib.Core.Bool.{Bool}
 use mathlib.Core.List.{List, [], _∷_, _++_}
 use lib.Dec.{ltb, leb, eqb}
 use lib.ListN.{length}

@@ -45,7 +45,7 @@ fn effort_in_range(e: Effort) -> bool
     let p = e.progress;
     let c = e.counters;
     let x = c.errors;
-    if 30 < f.n {
+    if line::LONGEST < f.n {
         return false;
     }
     if 359 < p.at {

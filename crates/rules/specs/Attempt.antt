@@ -1,7 +1,7 @@
 -- An attempt to send: its judgement, slot by slot, and what it spends (01, Sending).
 --   sentSlots, levelAt == the fixed frame's slots, and the level of slot k        judgeSlot, judge == what a sample is for the attempt
 --   advance == the effort after it        exhausted == error R + 1
-use Prim.Native.Nat.{ℕ, _+_, _-_, _*_, _/_, _%_}
+use Prim.Native.Nat.{ℕ, _+_, _*_, _%_}
 use mathlib.Core.Bool.{Bool, true, false}
 use mathlib.Core.List.{List, _++_}
 use lib.Dec.{eqb, ltb}

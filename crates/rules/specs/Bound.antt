@@ -1,6 +1,6 @@
 -- The tally alone: what holds of it between events, and what a judged slot keeps.
 --   Good == the bounds between events        Bounded == errors and slots of a tally, as demand 3 states them
-use Prim.Native.Nat.{ℕ, zero, suc, _+_, _-_, _*_, _≤_, _<_}
+use Prim.Native.Nat.{ℕ, suc, _+_, _-_, _*_, _≤_, _<_}
 use mathlib.Core.Bool.{Bool, true, false, false≢true}
 use mathlib.Core.List.{List, [], _∷_, _++_}
 use mathlib.Core.Path.{_≡_, refl, ap, _∙_, sym, subst}
@@ -10,10 +10,10 @@ use native.Mathlib.Omega.{arith}
 use borrow.Author.Tests.{ltb-true, ltb-false}
 use lib.Dec.{eqb, ltb}
 use lib.ListN.{length, getD, take, drop, length-append, length-drop, take-append-drop}
-use lib.Seq.{drop-cons, take-suc, getD-drop, take-nil}
+use lib.Seq.{drop-cons, take-suc, getD-drop}
 use Rattle.line.specs.Bits.{pick, Below}
 use Rattle.line.specs.Frame.{Frame, Fits, slots, size}
-use Rattle.line.specs.Laws.{slots-length, next}
+use Rattle.line.specs.Laws.{slots-length}
 use Rattle.line.specs.Layout.{partOf, halfOf}
 use Rattle.rules.specs.Registers.{both, command, transmitControl, autonomous, asksRearbitration}
 use Rattle.rules.specs.Channels.{base, cher, lowestReady}

@@ -3,10 +3,10 @@
 --   matches, listens, takes == whether a channel takes a frame        lowestListening, winnerFor == who takes it
 --   asksToSend, ready, lowestReady == who sends
 -- `low` is byte 1 of a frame or of a channel: identifier or tag bits 3 to 0, EXT, RAK, R/W, RTR.
-use Prim.Native.Nat.{ℕ, zero, suc, _+_, _-_, _*_, _/_, _%_}
+use Prim.Native.Nat.{ℕ, zero, suc, _+_, _*_, _/_, _%_}
 use mathlib.Core.Bool.{Bool, true, false}
 use mathlib.Core.List.{List}
-use lib.Dec.{eqb, ltb, leb}
+use lib.Dec.{eqb, leb}
 use lib.ListN.{getD}
 use lib.Bits.{bitAnd, bitXor}
 use Rattle.line.specs.Bits.{pick}

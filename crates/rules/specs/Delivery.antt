@@ -1,7 +1,7 @@
 -- What another module's frame does to the channel that takes it, and to the registers (01, Receiving).
 --   deliveryOf == what it does        memoryDelivered, reportHeard, reportDelivered == memory map and registers after it
 use Prim.Native.Nat.{ℕ}
-use mathlib.Core.Bool.{Bool, true, false}
+use mathlib.Core.Bool.{Bool, true}
 use mathlib.Core.List.{List}
 use lib.ListN.{getD}
 use Rattle.line.specs.Bits.{pick}

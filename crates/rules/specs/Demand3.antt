@@ -1,32 +1,32 @@
 -- Demand 3 over every list of events.
-use Prim.Native.Nat.{ℕ, zero, suc, _+_, _*_, _≤_, _<_, _%_}
+use Prim.Native.Nat.{ℕ, _+_, _≤_, _%_}
 use mathlib.Core.Bool.{Bool, true, false, false≢true}
 use mathlib.Core.List.{List, [], _∷_}
 use mathlib.Core.Path.{_≡_, refl, ap, _∙_, sym, subst}
 use native.Mathlib.Omega.{arith}
 use borrow.Author.Tests.{lt-ltb, le-ltb, ltb-true}
-use lib.Dec.{eqb, ltb}
+use lib.Dec.{ltb}
 use lib.ListN.{length}
 use Rattle.line.specs.Bits.{pick, Below}
-use Rattle.line.specs.Frame.{Frame, Fits, size}
+use Rattle.line.specs.Frame.{Fits}
 use Rattle.rules.specs.Registers.{resetReport}
 use Rattle.rules.specs.Mailbox.{coded}
-use Rattle.rules.specs.Attempt.{levelAt, judge, inService, isServing, drivesFrame, isDriving, atStage, isBetween, betweenAttempts}
+use Rattle.rules.specs.Attempt.{levelAt, judge, drivesFrame, isDriving, atStage, isBetween, betweenAttempts}
 use Rattle.rules.specs.Service.{roleOf, resting, stopped, endingOf, settled}
 use Rattle.rules.specs.State.{isActive, resetCore, slept}
-use Rattle.rules.specs.Slots.{heard, serviceJudged, ending, reportAfter, memoryJudged, coreJudged, followsOn, drivesAs, drives, sampleOf, judgedSlot, sampledSlot, activeSlot}
-use Rattle.rules.specs.Host.{resetAll, resets, sleeps, coreWritten, serviceAsked, stoppedCore, byteWritten, written}
-use Rattle.rules.specs.Run.{fresh, refuse, accept, answered, restedSlot, step, next}
+use Rattle.rules.specs.Slots.{heard, serviceJudged, ending, memoryJudged, coreJudged, drivesAs, drives, sampleOf, judgedSlot, sampledSlot, activeSlot}
+use Rattle.rules.specs.Host.{resetAll, resets, sleeps, coreWritten, serviceAsked, byteWritten, written}
+use Rattle.rules.specs.Run.{fresh, answered, restedSlot, step, next}
 use Rattle.rules.specs.Limits.{Fine}
 use Rattle.rules.specs.Join.{made, serviceIn, serviceOf, settled-is, slot-settled, asked-is, drivenIn, isBetweenStand}
-use Rattle.rules.specs.Follow.{isExhausted, te-judged, follows-activity, follows-line, follows-reception, follows-te, follows-service, written-service, written-te, stopped-service, stopped-te}
+use Rattle.rules.specs.Follow.{isExhausted, te-judged, follows-te, follows-service, written-te, stopped-service, stopped-te}
 use Rattle.rules.specs.Raised.{exhausted-between, exhausted-is}
 use Rattle.rules.specs.Reach.{fine-fresh, fine-next}
-use Rattle.rules.specs.Tally.{Stand, away, between, opening, inside, Tally, none, countedT, endedT, chooseT, startT, askedT, isAway}
+use Rattle.rules.specs.Tally.{Stand, away, between, opening, inside, Tally, none, countedT, endedT, askedT, isAway}
 use Rattle.rules.specs.Promise.{accepted, seenIn, followIn, afterSlot, seenT, nextT, Drives, InSlot, te, Claim, Kept}
 use Rattle.rules.specs.Frames.{level-coded}
 use Rattle.rules.specs.Steps.{Step, refusal, reset, wrote, gave, went, rested, step-of, refused-next, refused-seen, refused-tally, refused-not, accepted-next, accepted-seen, accepted-tally}
-use Rattle.rules.specs.Bound.{Good, Bounded, levelIn, drives-in, bounded-now, good-none, pick-good, ended-good, counted-good, after-good, asked-good}
+use Rattle.rules.specs.Bound.{Good, levelIn, drives-in, bounded-now, good-none, ended-good, counted-good, after-good, asked-good}
 use Rattle.rules.specs.declared.Stage.{Stage}
 use Rattle.rules.specs.declared.Stage.the-variants.{Waiting, Opening, Sending}
 use Rattle.rules.specs.declared.Service.{Service}

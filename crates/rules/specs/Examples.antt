@@ -20,8 +20,8 @@ use Rattle.rules.specs.Run as rrun
 use Rattle.rules.specs.Tally as rtally
 use Rattle.rules.specs.Promise as rpromise
 use Prim.Native.Nat.{ℕ}
-use mathlib.Core.Bool.{Bool, true, false}
-use mathlib.Core.List.{List, [], _∷_, _++_, map}
+use mathlib.Core.Bool.{false}
+use mathlib.Core.List.{List, [], _∷_, _++_}
 use mathlib.Core.Path.{_≡_, refl}
 use lib.ListN.{replicate, take}
 use Rattle.line.specs.Frame.{Frame, slots}
@@ -30,7 +30,7 @@ use Rattle.rules.specs.Tally.{Tally, none}
 use Rattle.rules.specs.Promise.{seenT, nextT}
 use Rattle.rules.specs.declared.Controller.{Controller}
 use Rattle.rules.specs.declared.Event.{Event}
-use Rattle.rules.specs.declared.Event.the-variants.{Reset, Write, Read, Slot}
+use Rattle.rules.specs.declared.Event.the-variants.{Write, Slot}
 
 -- it unfolds every definition of the rules, so that a run computes
 unfoldable pub seenOver : Controller → Tally → List Event → Event → Tally

@@ -1,22 +1,21 @@
 -- A slot and a host write of the controller, part by part: what they do to the service and to TE.
-use Prim.Native.Nat.{ℕ, zero, suc, _+_, _/_, _≤_, _<_, _%_}
-use mathlib.Core.Bool.{Bool, true, false, false≢true}
+use Prim.Native.Nat.{ℕ, _/_, _%_}
+use mathlib.Core.Bool.{Bool, true, false}
 use mathlib.Core.List.{List}
 use mathlib.Core.Path.{_≡_, refl, ap, _∙_, sym}
-use native.Mathlib.Omega.{arith}
-use lib.Dec.{eqb, ltb}
+use lib.Dec.{eqb}
 use lib.ListN.{getD}
 use Rattle.line.specs.Bits.{pick}
 use Rattle.rules.specs.Registers.{command, interruptReset, transmitControl, autonomous, unless, cleared, asksIdle, asksActivation}
 use Rattle.rules.specs.Channels.{lowestReady, acknowledgeAsked}
 use Rattle.rules.specs.Reception.{underWay, unsettled}
 use Rattle.rules.specs.Delivery.{withError, withFlags, withMessage, withSending, raiseRe, raiseRok, raiseRnok, withReceiveError, reportStored, reportHeard, reportDelivered}
-use Rattle.rules.specs.Attempt.{judge, inService, isServing, atStage}
-use Rattle.rules.specs.Service.{resting, stopped, endingOf, settled, retriesOf, reportSending, reportJudged, raiseTe, raiseTok, reportEnded, chosen, choiceOf, choose, started}
+use Rattle.rules.specs.Attempt.{inService, isServing, atStage}
+use Rattle.rules.specs.Service.{resting, stopped, settled, reportSending, reportJudged, raiseTe, raiseTok, reportEnded, chosen, choiceOf, choose, started}
 use Rattle.rules.specs.State.{isActive, inMode, serving, withActivity, withReport, withService, idled, idleDue, idleAsked, activated}
-use Rattle.rules.specs.Slots.{longest, heard, delivers, serviceJudged, ending, reportAfter, memoryJudged, coreJudged, chooses, choiceMade, startMade, followsOn, judgedSlot, sampledSlot}
+use Rattle.rules.specs.Slots.{longest, delivers, serviceJudged, ending, reportAfter, chooses, choiceMade, startMade, followsOn}
 use Rattle.rules.specs.Host.{modeCommanded, flagsCleared, coreWritten, stoppedCore}
-use Rattle.rules.specs.Tally.{Stand, away, between, opening, inside, Tally, none, choiceT, chooseIn, chooseT, startT}
+use Rattle.rules.specs.Tally.{Stand, away, between, opening, inside, Tally, choiceT, chooseIn, chooseT, startT}
 use Rattle.rules.specs.Join.{made, serviceIn, serviceOf, choose-is, started-is}
 use Rattle.rules.specs.declared.Report.{Report}
 use Rattle.rules.specs.declared.Choice.{Choice}

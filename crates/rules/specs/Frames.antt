@@ -1,15 +1,14 @@
 -- The fixed frame's bytes carry the frame's slots.
-use Prim.Native.Nat.{ℕ, _+_, _-_, _*_, _/_, _%_, _^_, _<_, _≤_}
-use mathlib.Core.Bool.{Bool, true, false}
+use Prim.Native.Nat.{ℕ, _+_, _-_, _*_, _/_, _%_}
+use mathlib.Core.Bool.{false}
 use mathlib.Core.List.{List, [], _∷_, _++_, append-assoc}
-use mathlib.Core.Path.{_≡_, refl, ap, _∙_, sym}
+use mathlib.Core.Path.{_≡_, ap, _∙_, sym}
 use native.Mathlib.Omega.{arith}
 use lib.ListN.{length, getD, take, replicate}
 use lib.Seq.{take-at}
 use Rattle.line.specs.Bits.{bits}
-use Rattle.line.specs.LineCode.{lineCode}
 use Rattle.line.specs.Check.{check}
-use Rattle.line.specs.Frame.{Frame, Fits, byteBits, covered, carried, slots, start, endOfData, endOfFrame, acknowledgeSlots}
+use Rattle.line.specs.Frame.{Frame, Fits, byteBits, covered, carried, slots}
 use Rattle.line.specs.Laws.{bits-split, bits-mod, header-bits, byteBits-append, carried-length}
 use Rattle.rules.specs.Mailbox.{coded, codedBytes}
 use Rattle.rules.specs.Attempt.{sentSlots, levelAt}

@@ -1,7 +1,7 @@
 -- The receiver's judgement of a sample (01, Receiving).
 --   hearFrame, hearQuiet == what the sample is, with a frame under way and without        acknowledges, receiverLevel == the acknowledge that the model drives
 --   lineAfter, receptionAfter == line and frame after the sample
-use Prim.Native.Nat.{ℕ, _+_, _-_, _*_, _/_, _%_}
+use Prim.Native.Nat.{ℕ, _+_, _*_, _/_, _%_}
 use mathlib.Core.Bool.{Bool, true, false, not}
 use mathlib.Core.List.{List}
 use lib.Dec.{eqb, ltb, leb}

@@ -1,8 +1,8 @@
 -- Host access: commands, registers, refusals (01, Memory map; Numbers refused).
 --   resetAll == reset by pin or GRES        written, byteRead == an accepted write and read
 --   writeRefused, readRefused == the number of a refusal, 0 where there is none
-use Prim.Native.Nat.{ℕ, _+_, _%_}
-use mathlib.Core.Bool.{Bool, true, false}
+use Prim.Native.Nat.{ℕ, _%_}
+use mathlib.Core.Bool.{Bool}
 use mathlib.Core.List.{List}
 use lib.Dec.{eqb, ltb}
 use lib.ListN.{getD, set}

@@ -1,11 +1,11 @@
 -- The controller's service and the tally, joined by one equation: each part of a step commutes with it.
-use Prim.Native.Nat.{ℕ, zero, suc, _+_, _-_, _*_, _/_, _%_, _<_, _≤_, min}
+use Prim.Native.Nat.{ℕ, _+_, _-_, _*_, _/_, _%_, _≤_, min}
 use mathlib.Core.Bool.{Bool, true, false, false≢true}
 use mathlib.Core.List.{List, [], _∷_, _++_}
 use mathlib.Core.Path.{_≡_, refl, ap, _∙_, sym}
 use native.Mathlib.Nat.{add-zero}
 use native.Mathlib.Omega.{arith}
-use borrow.Author.Tests.{lt-ltb, le-ltb, ltb-true, ltb-false}
+use borrow.Author.Tests.{ltb-true, ltb-false}
 use lib.Dec.{eqb, ltb}
 use lib.ListN.{length, getD, length-append}
 use Rattle.line.specs.Bits.{pick}
@@ -16,16 +16,16 @@ use Rattle.line.specs.declared.Part.the-variants as part
 use Rattle.line.specs.declared.Half.{Half}
 use Rattle.line.specs.declared.Half.the-variants.{Plain, First, Second}
 use Rattle.rules.specs.Registers.{both, command, transmitControl, autonomous, asksRearbitration}
-use Rattle.rules.specs.Channels.{acknowledgeAsked, base, cher, lowestReady}
+use Rattle.rules.specs.Channels.{acknowledgeAsked, base, cher}
 use Rattle.rules.specs.Mailbox.{coded, codedBytes}
 use Rattle.rules.specs.Reception.{free, underWay, startEnded}
 use Rattle.rules.specs.Attempt as attempt
 use Rattle.rules.specs.Attempt.{largest, moreSlots, moreAttempts, noCounts, atStage, inService, isServing, betweenAttempts, isBetween, waits, isWaiting, drivesFrame, isDriving, levelAt, due, overdriven, violated, recessiveLost, difference, judgeSlot, judge, withProgress, slotSpent, lostSpent, errorSpent, advance, exhausted}
-use Rattle.rules.specs.Service.{resting, withEffort, stopped, endingOf, settled, chosen, choiceOf, choose, opened, started, abortAsked, rearAsked, aborts}
+use Rattle.rules.specs.Service.{resting, withEffort, stopped, endingOf, settled, chosen, choiceOf, opened, started, abortAsked, rearAsked, aborts}
 use Rattle.rules.specs.Slots.{serviceJudged}
 use Rattle.rules.specs.Host.{rearCommanded, serviceAsked}
 use Rattle.rules.specs.Tally as tally
-use Rattle.rules.specs.Tally.{Stand, away, between, opening, inside, Tally, none, goes, contended, failed, sent, asksAcknowledge, dueLevel, openHalf, arbitrated, verdict, tallied, judgedAs, countedIn, countedT, givenUp, endedIn, endedT, chosenT, choiceT, chooseIn, chooseT, standing, startIn, startT, isAway, asking, asks, askedIn, askedT}
+use Rattle.rules.specs.Tally.{Stand, away, between, opening, inside, Tally, none, goes, contended, failed, sent, asksAcknowledge, dueLevel, openHalf, arbitrated, verdict, tallied, judgedAs, countedIn, countedT, givenUp, endedIn, endedT, chosenT, choiceT, standing, startIn, startT, isAway, asking, asks, askedIn, askedT}
 use Rattle.rules.specs.declared.Choice.{Choice}
 use Rattle.rules.specs.declared.Choice.the-variants.{Nothing, Lowest}
 use Rattle.rules.specs.declared.Line.{Line}
@@ -34,14 +34,13 @@ use Rattle.rules.specs.declared.Timeslots.{Timeslots}
 use Rattle.rules.specs.declared.Attempts.{Attempts}
 use Rattle.rules.specs.declared.Coded.{Coded}
 use Rattle.rules.specs.declared.Stage.{Stage}
-use Rattle.rules.specs.declared.Stage.the-variants.{Resting, Waiting, Opening, Sending}
+use Rattle.rules.specs.declared.Stage.the-variants.{Waiting, Opening, Sending}
 use Rattle.rules.specs.declared.Counters.{Counters}
-use Rattle.rules.specs.declared.Effort.{Effort}
 use Rattle.rules.specs.declared.Service.{Service}
 use Rattle.rules.specs.declared.Verdict.{Verdict}
 use Rattle.rules.specs.declared.Verdict.the-variants.{Unjudged, Goes, Lost, Failed, Done}
 use Rattle.rules.specs.declared.Ending.{Ending}
-use Rattle.rules.specs.declared.Ending.the-variants.{Going, Sent, Exhausted, Aborted, Rearbitrated}
+use Rattle.rules.specs.declared.Ending.the-variants.{Going, Exhausted, Aborted, Rearbitrated}
 
 -- ---- the service that a tally stands for; stored counts stop at their largest
 

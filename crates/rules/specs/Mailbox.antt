@@ -2,9 +2,9 @@
 --   mailboxAt == an address in the mailbox        stored == a frame in the mailbox
 --   sentFrame, coded == the frame that a channel sends, and its bytes        retagged, marked.. == what is written to a channel
 use Prim.Native.Nat.{ℕ, zero, suc, _+_, _-_, _*_, _/_, _%_}
-use mathlib.Core.Bool.{Bool, true, false}
+use mathlib.Core.Bool.{false}
 use mathlib.Core.List.{List, [], _∷_, _++_}
-use lib.Dec.{eqb, ltb}
+use lib.Dec.{eqb}
 use lib.ListN.{length, getD, set, take, drop, replicate}
 use Rattle.line.specs.Bits.{pick}
 use Rattle.line.specs.Check.{check}

@@ -1,5 +1,5 @@
 -- The service is exhausted in a slot exactly where the tally then has more than R errors.
-use Prim.Native.Nat.{ℕ, zero, suc, _+_, _≤_, _<_}
+use Prim.Native.Nat.{ℕ, _+_, _≤_}
 use mathlib.Core.Bool.{Bool, true, false}
 use mathlib.Core.List.{List, [], _∷_, _++_}
 use mathlib.Core.Path.{_≡_, refl, ap, _∙_, sym}
@@ -9,19 +9,18 @@ use lib.Dec.{ltb}
 use lib.ListN.{length}
 use Rattle.line.specs.Bits.{pick}
 use Rattle.rules.specs.Mailbox.{coded}
-use Rattle.rules.specs.Attempt.{levelAt, judge, judgeSlot, advance, atStage, drivesFrame, isDriving, betweenAttempts, isBetween}
+use Rattle.rules.specs.Attempt.{levelAt, judge, advance, atStage, drivesFrame, isDriving, betweenAttempts, isBetween}
 use Rattle.rules.specs.Service.{resting, withEffort, stopped, endingOf}
 use Rattle.rules.specs.Slots.{serviceJudged}
 use Rattle.rules.specs.Tally as tally
-use Rattle.rules.specs.Tally.{Stand, away, between, opening, inside, Tally, goes, contended, failed, sent, verdict, tallied, judgedAs, countedIn, countedT, isAway}
+use Rattle.rules.specs.Tally.{Stand, away, between, opening, inside, Tally, goes, contended, failed, verdict, tallied, judgedAs, countedIn, countedT, isAway}
 use Rattle.rules.specs.Join.{made, serviceIn, serviceOf, kind, Judged, went, lost, broke, done, slot-judged, kind-same, stopped-made, gone-on, was-lost, has-failed, judge-driving, last-level, drivenIn, isBetweenStand}
 use Rattle.rules.specs.Follow.{isExhausted}
 use Rattle.rules.specs.declared.Stage.{Stage}
 use Rattle.rules.specs.declared.Stage.the-variants.{Waiting, Opening, Sending}
 use Rattle.rules.specs.declared.Service.{Service}
 use Rattle.rules.specs.declared.Verdict.{Verdict}
-use Rattle.rules.specs.declared.Verdict.the-variants.{Unjudged, Goes, Lost, Failed, Done}
-use Rattle.rules.specs.declared.Ending.the-variants.{Going, Sent, Exhausted, Aborted, Rearbitrated}
+use Rattle.rules.specs.declared.Ending.the-variants.{Going, Exhausted, Aborted, Rearbitrated}
 
 first-of : (a b c : Bool) → isExhausted (pick a Exhausted (pick b Aborted (pick c Rearbitrated Going))) ≡ a
 unfolding isExhausted

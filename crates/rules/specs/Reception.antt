@@ -8,7 +8,6 @@ use lib.Dec.{eqb, ltb, leb}
 use lib.ListN.{getD, set, replicate}
 use Rattle.line.specs.Bits.{pick}
 use Rattle.rules.specs.Channels.{nobody, winnerFor}
-use Rattle.rules.specs.declared.Winner.{Winner}
 use Rattle.rules.specs.declared.Line.{Line}
 use Rattle.rules.specs.declared.Phase.{Phase}
 use Rattle.rules.specs.declared.Phase.the-variants.{Quiet, Start, Body, Acknowledge, End}

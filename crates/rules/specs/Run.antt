@@ -1,7 +1,6 @@
 -- The step rule and the run (demand 3: "each event gets the controller that the last one left").
 --   fresh == a fresh controller        step == an event's answer        next, after == the controller after an event, after a list of events
 use Prim.Native.Nat.{ℕ, _%_}
-use mathlib.Core.Bool.{Bool, true, false}
 use mathlib.Core.List.{List, [], _∷_}
 use lib.Dec.{eqb, ltb}
 use lib.ListN.{getD, replicate}

@@ -1,7 +1,6 @@
 -- The state, its modes and its ranges (01, Memory map; Numbers refused, 6).
 --   inRange == every number of the state is in its range        resetCore == the state after reset
 --   idled, idleDue, slept, idleAsked, activated == the commands IDLE, SLEEP, ACTI
-use Prim.Native.Nat.{ℕ}
 use mathlib.Core.Bool.{Bool, true, false}
 use lib.Dec.{leb}
 use Rattle.line.specs.Bits.{pick}

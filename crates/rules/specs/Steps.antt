@@ -1,15 +1,14 @@
 -- An event is refused, and changes nothing; or it is accepted, and the controller after it is known.
-use Prim.Native.Nat.{ℕ, zero, suc, _+_, _%_}
-use mathlib.Core.Bool.{Bool, true, false, false≢true}
-use mathlib.Core.Path.{_≡_, refl, ap, _∙_, sym}
+use Prim.Native.Nat.{ℕ, zero, suc, _%_}
+use mathlib.Core.Bool.{Bool, true, false}
+use mathlib.Core.Path.{_≡_, refl, ap}
 use lib.Dec.{eqb, ltb, eqb·suc-zero}
-use Rattle.line.specs.Bits.{pick}
 use Rattle.rules.specs.State.{inRange, isActive}
-use Rattle.rules.specs.Slots.{drives, sampleOf, activeSlot}
-use Rattle.rules.specs.Host.{resetAll, written, byteRead, accessRefused, writeRefused, readRefused, resets, sleeps}
+use Rattle.rules.specs.Slots.{activeSlot}
+use Rattle.rules.specs.Host.{resetAll, written, byteRead, accessRefused, writeRefused, readRefused}
 use Rattle.rules.specs.Run.{refuse, accept, pinReset, hostWrite, hostRead, answered, restedSlot, slot, step, next}
-use Rattle.rules.specs.Tally.{Tally, none, countedT, endedT, askedT}
-use Rattle.rules.specs.Promise.{accepted, seenIn, followIn, afterSlot, seenT, nextT}
+use Rattle.rules.specs.Tally.{Tally}
+use Rattle.rules.specs.Promise.{accepted, seenIn, followIn, seenT, nextT}
 use Rattle.rules.specs.declared.Controller.{Controller}
 use Rattle.rules.specs.declared.Answer.{Answer}
 use Rattle.rules.specs.declared.Event.{Event}

@@ -3,7 +3,7 @@
 -- anything that the controller records about sending. Its numbers have no largest value.
 --   Stand == where a service stands: away (none), between attempts, opening (the first level of an attempt is answered), inside (the levels driven so far)
 --   verdict == what a driven and a sampled level are for the attempt        countedT, endedT, chooseT, startT == a slot        askedT == a host write
-use Prim.Native.Nat.{ℕ, _+_, _-_, _*_, _/_, _%_}
+use Prim.Native.Nat.{ℕ, _+_, _*_, _/_, _%_}
 use mathlib.Core.Bool.{Bool, true, false}
 use mathlib.Core.List.{List, [], _∷_, _++_}
 use lib.Dec.{eqb, ltb}

@@ -5,6 +5,7 @@ use mathlib.Core.List.{List}
 use mathlib.Core.Path.{_≡_, refl, sym}
 use lib.ListN.{getD}
 use Rattle.line.specs.Bits.{pick}
+use Rattle.line.specs.Laws.{pick-same}
 use Rattle.rules.specs.Registers.{lineControl, transmitted}
 use Rattle.rules.specs.Reception.{underWay, startEnded}
 use Rattle.rules.specs.Attempt.{waits}
@@ -17,10 +18,6 @@ use Rattle.rules.specs.declared.Role.{Role}
 use Rattle.rules.specs.declared.Role.the-variants.{Nobody, Receiver, Sender}
 use Rattle.rules.specs.declared.Core.{Core}
 use Rattle.slots.specs.Follow.{begins, driven, drivenAs}
-
-pick-same : {A : Type 0} (b : Bool) (a : A) → pick b a a ≡ a
-pick-same true a = refl
-pick-same false a = refl
 
 -- no idle waits, a frame is under way, and its start sequence has not just ended
 waits-not : (k : Core) → begins k ≡ false → k .activity .waiting ≡ false

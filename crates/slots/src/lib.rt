@@ -18,9 +18,6 @@ use rules::Refusal;
 use rules::Reply;
 use rules::Role;
 
-// The longest data field.
-const LONGEST: u8 = 30;
-
 // ---- what follows
 
 fn chooses(k: Core) -> bool
@@ -44,7 +41,7 @@ fn choice_made(m: &[u8; 256], k: Core) -> Core
     ensures { λ r. ⌜ r ≡ rule.choiceMade (now (m .entry)) k ⌝ }
 {
     if chooses(k) {
-        let s = service::choose(m, LONGEST);
+        let s = service::choose(m, line::LONGEST);
         if state::serving(s) {
             let mut t = k;
             t.report = reports::report_sending(k.report, s);

@@ -1,4 +1,3 @@
-use borrow.Author.Needs.{needs}
 use Rattle.rules.specs.Attempt.{advance}
 use Rattle.attempt.specs.Following.{following}
 use Rattle.attempt.proofs.advance.Statement.{statement}

@@ -1,6 +1,4 @@
 use borrow.Author.Needs.{needs}
-use mathlib.Core.Path.{refl}
-use borrow.Author.Tests.{lt-ltb, le-ltb, le-leb, lt-leb, eq-eqb, ne-eqb}
 use Rattle.codec.specs.Answer.{number}
 use Rattle.codec.proofs.number.Statement.{statement}
 use Rattle.codec.proofs.number.Tie as tie

@@ -1,5 +1,3 @@
-use mathlib.Core.Path.{refl}
-use borrow.Author.Tests.{lt-ltb, le-ltb, le-leb, lt-leb, eq-eqb, ne-eqb}
 use Rattle.rules.specs.Host.{byteWritten, keptByte}
 use Rattle.rules.specs.Service.{memoryEnded}
 use Rattle.rules.specs.Mailbox.{markedChtx, markedCher}

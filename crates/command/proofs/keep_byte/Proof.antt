@@ -1,6 +1,4 @@
 use borrow.Author.Needs.{needs}
-use mathlib.Core.Path.{refl}
-use borrow.Author.Tests.{lt-ltb, le-ltb, le-leb, lt-leb, eq-eqb, ne-eqb}
 use Rattle.rules.specs.Host.{keptByte}
 use Rattle.command.proofs.keep_byte.Statement.{statement}
 use Rattle.command.proofs.keep_byte.Tie as tie

@@ -1,5 +1,3 @@
-use mathlib.Core.Path.{refl}
-use borrow.Author.Tests.{lt-ltb, le-ltb, le-leb, lt-leb, eq-eqb, ne-eqb}
 use Rattle.rules.specs.Host.{stoppedCore}
 use Rattle.rules.specs.State.{withService, withReport}
 use Rattle.command.proofs.stopped_core.Statement.{statement}

@@ -1,5 +1,3 @@
-use mathlib.Core.Path.{refl}
-use borrow.Author.Tests.{lt-ltb, le-ltb, le-leb, lt-leb, eq-eqb, ne-eqb}
 use Rattle.rules.specs.Host.{written, resetAll}
 use Rattle.command.proofs.written.Statement.{statement}
 use Rattle.command.proofs.written.Tie as tie

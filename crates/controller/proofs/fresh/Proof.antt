@@ -1,5 +1,3 @@
-use mathlib.Core.Path.{refl}
-use borrow.Author.Tests.{lt-ltb, le-ltb, le-leb, lt-leb, eq-eqb, ne-eqb}
 use Rattle.rules.specs.Run.{fresh}
 use Rattle.rules.specs.Host.{resetAll}
 use Rattle.controller.proofs.fresh.Statement.{statement}

@@ -1,5 +1,4 @@
 use borrow.Author.Needs.{needs}
-use mathlib.Core.Path.{_≡_, refl, sym, _∙_, ap}
 use native.Mathlib.Omega.{arith}
 use Rattle.line.specs.Frame.{endOfFrame}
 use Rattle.decoder.specs.View.{seenBits}

@@ -1,10 +1,10 @@
 use Prim.Native.Nat.{_≤_, _-_, _+_, _*_}
 use native.Mathlib.Nat.{sub-zero}
-use mathlib.Core.Path.{_≡_, refl, sym, _∙_, ap}
+use mathlib.Core.Path.{_≡_, refl, sym, _∙_}
 use native.Mathlib.Omega.{arith}
 use lib.ListN.{length, length-set}
 use lib.Seq.{sets}
-use Rattle.decoder.specs.View.{view, bytesAt}
+use Rattle.decoder.specs.View.{bytesAt}
 use Rattle.decoder.proofs.Views.{number-view, fill-next, fill-end}
 use Rattle.decoder.proofs.fill.Statement.{statement}
 use Rattle.decoder.proofs.fill.Tie as tie

@@ -1,4 +1,4 @@
-use mathlib.Core.Path.{_≡_, refl, sym, _∙_, ap}
+use mathlib.Core.Path.{sym, _∙_}
 use native.Mathlib.Omega.{arith}
 use Rattle.decoder.proofs.Views.{head-seen, number-view}
 use Rattle.decoder.proofs.head_of.Statement.{statement}

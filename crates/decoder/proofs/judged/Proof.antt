@@ -1,6 +1,5 @@
-use mathlib.Core.Path.{_≡_, refl, sym, _∙_, ap}
+use mathlib.Core.Path.{sym, _∙_}
 use native.Mathlib.Omega.{arith}
-use Rattle.decoder.specs.View.{seenBits}
 use Rattle.decoder.proofs.Views.{whole-odd, judged-seen}
 use Rattle.decoder.proofs.judged.Statement.{statement}
 use Rattle.decoder.proofs.judged.Tie as tie

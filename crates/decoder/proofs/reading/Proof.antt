@@ -1,8 +1,8 @@
 use borrow.Author.Needs.{needs}
-use mathlib.Core.Path.{_≡_, refl, sym, _∙_, ap}
+use mathlib.Core.Path.{sym, _∙_}
 use native.Mathlib.Omega.{arith}
 use Rattle.line.specs.Frame.{start}
-use Rattle.decoder.specs.View.{view, seenBits}
+use Rattle.decoder.specs.View.{view}
 use Rattle.codec.specs.RoundTrip.{below-levels}
 use Rattle.decoder.proofs.Views.{bad-level, bad-start, bad-code, coded, begun}
 use Rattle.decoder.proofs.reading.Statement.{statement}

@@ -1,7 +1,6 @@
-use Prim.Native.Nat.{_≤_, _-_, _+_, _/_}
-use mathlib.Core.Path.{_≡_, refl, sym, _∙_, ap}
+use Prim.Native.Nat.{_≤_, _-_}
+use mathlib.Core.Path.{_≡_, refl, _∙_}
 use native.Mathlib.Omega.{arith}
-use lib.ListN.{length}
 use Rattle.line.specs.Check.{remainder, allOnes}
 use Rattle.decoder.specs.View.{view}
 use Rattle.decoder.proofs.Views.{remainder-next}

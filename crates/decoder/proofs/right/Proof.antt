@@ -1,7 +1,7 @@
 use Prim.Native.Nat.{_*_, _-_}
-use mathlib.Core.Path.{_≡_, refl, sym, _∙_, ap}
+use mathlib.Core.Path.{sym, _∙_}
 use native.Mathlib.Omega.{arith}
-use Rattle.line.specs.Check.{remainder, allOnes}
+use Rattle.line.specs.Check.{allOnes}
 use Rattle.line.specs.Laws.{remainder-below}
 use Rattle.decoder.specs.View.{view}
 use Rattle.decoder.proofs.Views.{right-view}

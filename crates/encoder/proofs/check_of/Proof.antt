@@ -1,5 +1,5 @@
 use Prim.Native.Nat.{_+_, _*_, _/_, _%_, _^_, _<_}
-use mathlib.Core.Path.{_≡_, refl, sym, _∙_, ap}
+use mathlib.Core.Path.{sym, _∙_}
 use native.Mathlib.Omega.{arith}
 use Rattle.line.specs.Bits.{bits}
 use Rattle.line.specs.Frame.{byteBits}

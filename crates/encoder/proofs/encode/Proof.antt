@@ -1,9 +1,7 @@
-use Prim.Native.Nat.{_+_, _*_}
 use borrow.Author.Needs.{needs}
-use mathlib.Core.Path.{_≡_, refl, sym, _∙_, ap}
+use mathlib.Core.Path.{refl, _∙_}
 use native.Mathlib.Omega.{arith}
 use borrow.Author.Tests.{lt-ltb, le-ltb}
-use lib.ListN.{length}
 use Rattle.line.specs.Frame.{slots, size}
 use Rattle.line.specs.Laws.{slots-length}
 use Rattle.codec.specs.Encode.{encoded, encodedRoom, given}

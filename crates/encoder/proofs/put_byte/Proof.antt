@@ -1,6 +1,5 @@
 use Prim.Native.Nat.{_+_, _/_, _%_}
 use borrow.Author.Needs.{needs}
-use mathlib.Core.Path.{_≡_, refl, sym, _∙_, ap}
 use native.Mathlib.Omega.{arith}
 use Rattle.encoder.proofs.Puts.{joined, five, five-length, byte-code}
 use Rattle.encoder.proofs.put_byte.Statement.{statement}

@@ -1,6 +1,5 @@
 use borrow.Author.Needs.{needs}
-use mathlib.Core.Path.{refl}
-use borrow.Author.Tests.{lt-ltb, le-ltb, le-leb, lt-leb, eq-eqb, ne-eqb}
+use borrow.Author.Tests.{eq-eqb, ne-eqb}
 use Rattle.line.specs.Check.{checkBit, polynomial}
 use Rattle.frame_check.proofs.check_bit.Statement.{statement}
 use Rattle.frame_check.proofs.check_bit.Tie as tie

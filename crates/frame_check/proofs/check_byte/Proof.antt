@@ -1,4 +1,4 @@
-use mathlib.Core.Path.{sym, _∙_, ap}
+use mathlib.Core.Path.{_∙_}
 use Rattle.line.specs.Laws.{bits-split, remainder-append}
 use Rattle.frame_check.proofs.check_byte.Statement.{statement}
 use Rattle.frame_check.proofs.check_byte.Tie as tie

@@ -1,4 +1,3 @@
-use mathlib.Core.Path.{refl}
 use native.Mathlib.Nat.{div-one}
 use Rattle.line.specs.Bits.{bits}
 use Rattle.line.specs.Check.{remainder}

@@ -1,6 +1,5 @@
 use borrow.Author.Needs.{needs}
-use mathlib.Core.Path.{refl}
-use borrow.Author.Tests.{lt-ltb, le-ltb, le-leb, lt-leb, eq-eqb, ne-eqb}
+use borrow.Author.Tests.{lt-ltb, le-ltb}
 use Rattle.rules.specs.Answers.{answerLent, number, refusedBy, valueOf}
 use Rattle.rules.specs.Host.{writeRefused, written, resetAll}
 use Rattle.rules.specs.Run.{accept, refuse}

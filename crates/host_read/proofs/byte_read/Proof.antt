@@ -1,6 +1,4 @@
 use borrow.Author.Needs.{needs}
-use mathlib.Core.Path.{refl}
-use borrow.Author.Tests.{lt-ltb, le-ltb, le-leb, lt-leb, eq-eqb, ne-eqb}
 use Rattle.rules.specs.Host.{byteRead}
 use Rattle.host_read.proofs.byte_read.Statement.{statement}
 use Rattle.host_read.proofs.byte_read.Tie as tie

@@ -1,5 +1,3 @@
-use mathlib.Core.Path.{refl}
-use borrow.Author.Tests.{lt-ltb, le-ltb, le-leb, lt-leb, eq-eqb, ne-eqb}
 use Rattle.rules.specs.Host.{lineStatusOf}
 use Rattle.host_read.proofs.line_status_of.Statement.{statement}
 use Rattle.host_read.proofs.line_status_of.Tie as tie

@@ -1,5 +1,3 @@
-use mathlib.Core.Path.{refl}
-use borrow.Author.Tests.{lt-ltb, le-ltb, le-leb, lt-leb, eq-eqb, ne-eqb}
 use Rattle.rules.specs.Answers.{answerLent, number, refusedBy, valueOf}
 use Rattle.rules.specs.Host.{readRefused, byteRead}
 use Rattle.rules.specs.Run.{accept, refuse}

@@ -1,5 +1,4 @@
-use mathlib.Core.Path.{refl}
-use borrow.Author.Tests.{lt-ltb, le-ltb, le-leb, lt-leb, eq-eqb, ne-eqb}
+use borrow.Author.Tests.{eq-eqb, ne-eqb}
 use Rattle.rules.specs.Host.{statusRead}
 use Rattle.host_read.proofs.status_read.Statement.{statement}
 use Rattle.host_read.proofs.status_read.Tie as tie

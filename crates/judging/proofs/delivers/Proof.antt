@@ -1,6 +1,4 @@
 use borrow.Author.Needs.{needs}
-use mathlib.Core.Path.{refl}
-use borrow.Author.Tests.{lt-ltb, le-ltb, le-leb, lt-leb, eq-eqb, ne-eqb}
 use Rattle.rules.specs.Slots.{delivers}
 use Rattle.judging.proofs.delivers.Statement.{statement}
 use Rattle.judging.proofs.delivers.Tie as tie

@@ -1,5 +1,4 @@
-use mathlib.Core.Path.{_≡_, refl, sym, _∙_, ap}
-use borrow.Author.Needs.{needs}
+use mathlib.Core.Path.{_∙_}
 use Rattle.rules.specs.Slots.{heard, heardAs}
 use Rattle.rules.specs.Service.{roleOf}
 use Rattle.judging.proofs.heard.Statement.{statement}

@@ -1,6 +1,3 @@
-use borrow.Author.Needs.{needs}
-use mathlib.Core.Path.{refl}
-use borrow.Author.Tests.{lt-ltb, le-ltb, le-leb, lt-leb, eq-eqb, ne-eqb}
 use Rattle.judging.specs.Ordinary.{ordinary}
 use Rattle.judging.proofs.ordinary.Statement.{statement}
 use Rattle.judging.proofs.ordinary.Tie as tie

@@ -1,5 +1,3 @@
-use mathlib.Core.Path.{refl}
-use borrow.Author.Tests.{lt-ltb, le-ltb, le-leb, lt-leb, eq-eqb, ne-eqb}
 use Rattle.rules.specs.Slots.{receptionJudged}
 use Rattle.judging.proofs.reception_judged.Statement.{statement}
 use Rattle.judging.proofs.reception_judged.Tie as tie

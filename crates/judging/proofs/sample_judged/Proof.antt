@@ -1,4 +1,4 @@
-use mathlib.Core.Path.{_≡_, refl, sym, _∙_, ap}
+use mathlib.Core.Path.{_∙_}
 use Rattle.rules.specs.Slots.{memoryJudged, coreJudged, reportAfter, ending, serviceJudged}
 use Rattle.rules.specs.Service.{withEffort}
 use Rattle.judging.specs.Ordinary.{memoryAfter, coreAfter, reportOf}

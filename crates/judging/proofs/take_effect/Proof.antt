@@ -1,4 +1,4 @@
-use mathlib.Core.Path.{_≡_, refl, sym, _∙_, ap}
+use mathlib.Core.Path.{sym, _∙_}
 use Rattle.judging.specs.Ordinary.{reportOf}
 use Rattle.judging.proofs.Ways.{memory-kept, report-kept, service-kept}
 use Rattle.judging.proofs.take_effect.Statement.{statement}

@@ -1,6 +1,5 @@
 use borrow.Author.Needs.{needs}
-use mathlib.Core.Path.{refl}
-use borrow.Author.Tests.{lt-ltb, le-ltb, le-leb, lt-leb, eq-eqb, ne-eqb}
+use borrow.Author.Tests.{lt-ltb, le-ltb}
 use Rattle.line.specs.Layout.{partOf}
 use Rattle.line.proofs.part_of.Statement.{statement}
 use Rattle.line.proofs.part_of.Tie as tie

@@ -1,7 +1,5 @@
-use mathlib.Core.Path.{sym, _∙_}
 use native.Mathlib.Omega.{arith}
 use borrow.Author.Needs.{needs}
-use lib.ListN.{length-set}
 use Rattle.listing.specs.Laws.{hexadecimal-two}
 use Rattle.listing.proofs.Puts.{three, four}
 use Rattle.listing.proofs.put_hexadecimal.Statement.{statement}

@@ -1,5 +1,3 @@
-use Prim.Native.Nat.{_^_}
-use mathlib.Core.Path.{refl, sym}
 use native.Mathlib.Omega.{arith}
 use Rattle.line.specs.Check.{check, allOnes}
 use Rattle.line.specs.Frame.{byteBits}

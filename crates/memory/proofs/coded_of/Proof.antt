@@ -1,5 +1,4 @@
 use borrow.Author.Needs.{needs}
-use native.Mathlib.Omega.{arith}
 use Rattle.memory.proofs.Laying.{sent-coded}
 use Rattle.memory.proofs.coded_of.Statement.{statement}
 use Rattle.memory.proofs.coded_of.Tie as tie

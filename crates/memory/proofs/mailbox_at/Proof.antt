@@ -1,7 +1,6 @@
 use borrow.Author.Needs.{needs}
 use native.Mathlib.Omega.{arith}
 use mathlib.Core.Path.{refl}
-use borrow.Author.Tests.{lt-ltb, le-ltb, le-leb, lt-leb, eq-eqb, ne-eqb}
 use Rattle.rules.specs.Mailbox.{mailboxAt}
 use Rattle.memory.proofs.mailbox_at.Statement.{statement}
 use Rattle.memory.proofs.mailbox_at.Tie as tie

@@ -1,6 +1,5 @@
 use borrow.Author.Needs.{needs}
 use mathlib.Core.Path.{refl}
-use borrow.Author.Tests.{lt-ltb, le-ltb, le-leb, lt-leb, eq-eqb, ne-eqb}
 use Rattle.rules.specs.Mailbox.{statusByte}
 use Rattle.memory.proofs.status_byte.Statement.{statement}
 use Rattle.memory.proofs.status_byte.Tie as tie

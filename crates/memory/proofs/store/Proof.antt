@@ -2,9 +2,8 @@ use Prim.Native.Nat.{_+_, _-_}
 use borrow.Author.Needs.{needs}
 use borrow.Kind.Array.{eInt, good-length}
 use native.Mathlib.Omega.{arith}
-use mathlib.Core.Path.{_≡_, refl, sym, _∙_}
+use mathlib.Core.Path.{_≡_}
 use mir.Syntax.{w8}
-use lib.ListN.{length}
 use Rattle.memory.proofs.Laying.{stored-is, all-taken}
 use Rattle.memory.proofs.store.Statement.{statement}
 use Rattle.memory.proofs.store.Tie as tie

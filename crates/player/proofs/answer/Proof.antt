@@ -1,5 +1,3 @@
-use mathlib.Core.Path.{_≡_, refl, ap, sym, _∙_}
-use native.Mathlib.Omega.{arith}
 use borrow.Author.Needs.{needs}
 use Rattle.rules.specs.Answers.{answerLent, refusedBy, valueOf}
 use Rattle.rules.specs.Run.{step, accept}

@@ -1,6 +1,4 @@
-use mathlib.Core.Path.{_≡_, refl, ap, sym, _∙_}
 use native.Mathlib.Omega.{arith}
-use borrow.Author.Needs.{needs}
 use Rattle.bench_record.specs.Laws.{event-laid, event-next}
 use Rattle.listing.specs.Listing.{line}
 use Rattle.listing.specs.Laws.{line-laid}

@@ -1,6 +1,4 @@
-use borrow.Author.Needs.{needs}
 use mathlib.Core.Path.{refl}
-use borrow.Author.Tests.{lt-ltb, le-ltb, le-leb, lt-leb, eq-eqb, ne-eqb}
 use Rattle.rules.specs.State.{lineInRange}
 use Rattle.ranges.proofs.line_in_range.Statement.{statement}
 use Rattle.ranges.proofs.line_in_range.Tie as tie

@@ -1,6 +1,4 @@
 use borrow.Author.Needs.{needs}
-use mathlib.Core.Path.{refl}
-use borrow.Author.Tests.{lt-ltb, le-ltb, le-leb, lt-leb, eq-eqb, ne-eqb}
 use Rattle.rules.specs.Slots.{activeSlot, sampleOf}
 use Rattle.slots.proofs.active_slot.Statement.{statement}
 use Rattle.slots.proofs.active_slot.Tie as tie

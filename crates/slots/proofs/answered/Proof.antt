@@ -1,6 +1,4 @@
 use borrow.Author.Needs.{needs}
-use mathlib.Core.Path.{refl}
-use borrow.Author.Tests.{lt-ltb, le-ltb, le-leb, lt-leb, eq-eqb, ne-eqb}
 use Rattle.rules.specs.Answers.{answerLent, refusedBy, valueOf, number}
 use Rattle.rules.specs.Run.{accept}
 use Rattle.slots.proofs.answered.Statement.{statement}

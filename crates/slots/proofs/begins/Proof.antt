@@ -1,5 +1,3 @@
-use mathlib.Core.Path.{refl}
-use borrow.Author.Tests.{lt-ltb, le-ltb, le-leb, lt-leb, eq-eqb, ne-eqb}
 use Rattle.slots.specs.Follow.{begins}
 use Rattle.slots.proofs.begins.Statement.{statement}
 use Rattle.slots.proofs.begins.Tie as tie

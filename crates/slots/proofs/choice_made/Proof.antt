@@ -1,5 +1,3 @@
-use mathlib.Core.Path.{refl}
-use borrow.Author.Tests.{lt-ltb, le-ltb, le-leb, lt-leb, eq-eqb, ne-eqb}
 use Rattle.rules.specs.Slots.{choiceMade}
 use Rattle.rules.specs.State.{withService, withReport}
 use Rattle.slots.proofs.choice_made.Statement.{statement}

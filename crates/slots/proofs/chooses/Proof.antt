@@ -1,5 +1,3 @@
-use mathlib.Core.Path.{refl}
-use borrow.Author.Tests.{lt-ltb, le-ltb, le-leb, lt-leb, eq-eqb, ne-eqb}
 use Rattle.rules.specs.Slots.{chooses}
 use Rattle.slots.proofs.chooses.Statement.{statement}
 use Rattle.slots.proofs.chooses.Tie as tie

@@ -1,6 +1,4 @@
 use borrow.Author.Needs.{needs}
-use mathlib.Core.Path.{refl}
-use borrow.Author.Tests.{lt-ltb, le-ltb, le-leb, lt-leb, eq-eqb, ne-eqb}
 use Rattle.slots.specs.Follow.{driven, drivenAs}
 use Rattle.slots.proofs.drives.Statement.{statement}
 use Rattle.slots.proofs.drives.Tie as tie

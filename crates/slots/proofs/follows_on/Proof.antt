@@ -1,5 +1,4 @@
-use mathlib.Core.Path.{_≡_, refl, sym, _∙_, ap}
-use borrow.Author.Needs.{needs}
+use mathlib.Core.Path.{sym, _∙_}
 use Rattle.rules.specs.Slots.{followsOn}
 use Rattle.slots.proofs.Ways.{nothing-follows}
 use Rattle.slots.proofs.follows_on.Statement.{statement}

@@ -1,4 +1,3 @@
-use mathlib.Core.Path.{_≡_, refl, sym, _∙_, ap}
 use Rattle.rules.specs.Slots.{sampledSlot, judgedSlot}
 use Rattle.judging.specs.Ordinary.{memoryAfter, coreAfter}
 use Rattle.slots.proofs.sampled_slot.Statement.{statement}

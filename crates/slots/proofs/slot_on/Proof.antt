@@ -1,4 +1,4 @@
-use mathlib.Core.Path.{refl, _∙_, ap}
+use mathlib.Core.Path.{_∙_, ap}
 use borrow.Author.Tests.{lt-ltb, le-ltb}
 use Rattle.rules.specs.Answers.{answerLent, number, refusedBy, valueOf}
 use Rattle.rules.specs.Run.{slot, refuse, restedSlot, answered}

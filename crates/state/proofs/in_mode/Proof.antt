@@ -1,6 +1,4 @@
-use borrow.Author.Needs.{needs}
 use mathlib.Core.Path.{refl}
-use borrow.Author.Tests.{lt-ltb, le-ltb, le-leb, lt-leb, eq-eqb, ne-eqb}
 use Rattle.rules.specs.State.{inMode}
 use Rattle.state.proofs.in_mode.Statement.{statement}
 use Rattle.state.proofs.in_mode.Tie as tie

@@ -1,5 +1,3 @@
-use mathlib.Core.Path.{refl}
-use borrow.Author.Tests.{lt-ltb, le-ltb, le-leb, lt-leb, eq-eqb, ne-eqb}
 use Rattle.rules.specs.State.{resetCore}
 use Rattle.state.proofs.reset_core.Statement.{statement}
 use Rattle.state.proofs.reset_core.Tie as tie
