@@ -51,7 +51,7 @@ fn play_events(s: &[u8], count: u16, first: usize) {
     let mut at = first;
     let mut n = 0u16;
     while n < count {
-        match session::event_from(s, at) {
+        match reading_place::event_from(s, at) {
             Item::Bad(f, p) => {
                 bad(f, p);
                 return;

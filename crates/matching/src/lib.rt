@@ -111,7 +111,7 @@ fn takes(m: &[u8; 256], c: u8, high: u8, low: u8) -> bool
 }
 
 // No channel takes the frame.
-pub fn nobody() -> Winner
+fn nobody() -> Winner
     ensures { λ r. ⌜ r ≡ rule.nobody ⌝ }
 {
     Winner {

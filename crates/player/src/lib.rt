@@ -89,7 +89,7 @@ fn play_events(s: &[u8], count: u16, first: usize, room: &mut [u8], at: usize) -
     let mut place = at;
     let mut index = 0u16;
     while index < count {
-        match session::event_from(s, from) {
+        match reading_place::event_from(s, from) {
             Item::Bad(f, p) => return listing::put_edge(
                 room,
                 place,

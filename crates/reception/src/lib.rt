@@ -2,10 +2,12 @@
 // The frame is followed too while the model itself sends.
 ghost use mathlib.Core.Path.{_≡_};
 ghost use Prim.Native.Nat.{_<_, _+_, _*_, _/_, _%_};
+ghost use Rattle.rules.specs.Channels as channels_rule;
 ghost use Rattle.rules.specs.Reception as rule;
 use rules::Phase;
 use rules::Place;
 use rules::Reception;
+use rules::Winner;
 
 // A place in a frame.
 fn at_place(phase: Phase, at: u8) -> Place
@@ -14,6 +16,19 @@ fn at_place(phase: Phase, at: u8) -> Place
     Place {
         phase: phase,
         at: at,
+    }
+}
+
+// No channel takes the frame.
+fn nobody() -> Winner
+    ensures { λ r. ⌜ r ≡ channels_rule.nobody ⌝ }
+{
+    Winner {
+        matched: false,
+        channel: 0,
+        silent: false,
+        pointer: 0,
+        length: 0,
     }
 }
 
@@ -26,7 +41,7 @@ pub fn quiet() -> Reception
         nibbles: 0,
         bits: 0,
         bytes: [0u8; 34],
-        winner: matching::nobody(),
+        winner: nobody(),
     }
 }
 

@@ -1,4 +1,4 @@
-// Reads a session: lent bytes and a reading place moving over them.
+// Reads a session: what stands at a place of lent bytes (01, Session and listing).
 ghost use mathlib.Core.Path.{_≡_};
 ghost use Rattle.session.specs.Reading as rule;
 ghost use Rattle.session.specs.Cases.{Marked};
@@ -43,12 +43,6 @@ pub enum Item {
 pub enum End {
     Clean,
     Bad(Fault, usize),
-}
-
-// Lent bytes and a reading place.
-pub struct Session<'a> {
-    pub src: &'a [u8],
-    pub at: usize,
 }
 
 // The largest count.
@@ -123,7 +117,7 @@ fn count_at(s: &[u8], at: usize) -> Header
 }
 
 // The event at a place.
-fn event_at(s: &[u8], at: usize) -> Item
+pub fn event_at(s: &[u8], at: usize) -> Item
     ensures { λ r. ⌜ r ≡ rule.eventAt (now (s .entry)) at ⌝ }
 {
     match number_at(s, at) {
@@ -171,33 +165,6 @@ pub fn end_at(s: &[u8], at: usize) -> End
     } else {
         End::Clean
     }
-}
-
-// The reading place at the first byte.
-fn open<'a>(src: &'a [u8]) -> Session<'a>
-    ensures { λ r. ⌜ (r .src ≡ src .entry) × (r .at ≡ 0) ⌝ }
-{
-    Session { src, at: 0 }
-}
-
-fn moved<'a>(r: Session<'a>, at: usize) -> Session<'a>
-    ensures { λ q. ⌜ (q .src ≡ r .entry .src) × (q .at ≡ at) ⌝ }
-{
-    Session { src: r.src, at }
-}
-
-// The event at the reading place.
-fn next<'a>(r: Session<'a>) -> Item
-    ensures { λ s. ⌜ s ≡ rule.eventAt (now (r .entry .src)) (r .entry .at) ⌝ }
-{
-    event_at(r.src, r.at)
-}
-
-// The event at a place, for callers that hold no reading place.
-pub fn event_from(s: &[u8], at: usize) -> Item
-    ensures { λ i. ⌜ i ≡ rule.eventAt (now (s .entry)) at ⌝ }
-{
-    next(moved(open(s), at))
 }
 
 // Claim: the marked cases of sessions. What holds of every session is stated in crate claims.

@@ -114,7 +114,7 @@ fn events_from(s: &[u8], count: u16, first: usize) -> Outcome
     let mut at = first;
     let mut n = 0u16;
     while n < count {
-        match session::event_from(s, at) {
+        match reading_place::event_from(s, at) {
             Item::Bad(f, p) => return Outcome::Broken(n, f, p),
             Item::Next(_, next) => at = next,
         }

@@ -1,4 +1,4 @@
--- `session::moved` meets its contract: a walk of its MIR. A struct is made anew of the slice that the one passed holds, and another number.
+-- `reading_place::moved` meets its contract: a walk of its MIR. A struct is made anew of the slice that the one passed holds, and another number.
 -- The struct is Copy: what it owns is had twice, one copy is kept whole for the exit, and the other, with the facts of the number in the place of at's, is what the result owns.
 -- Assumes nothing.
 use mathlib.Core.Path.{refl}
@@ -34,13 +34,13 @@ use denote.Triple.Spec.{Meets, tripleOf}
 use denote.Triple.Table.{entered}
 use denote.Triple.Walked.{says, Stays, stay-none, walkOf, goes-none, Walks, ends-at, walked, walk-meets}
 use denote.Exit.{yes}
-use Rattle.session.specs.declared.Session.{Session}
-use Rattle.session.proofs.Session as T
-use Rattle.session.proofs.Session.Laws as T′
-use Rattle.session.proofs.moved.Key.{name as #session·moved}
-use Rattle.session.proofs.moved as moved
-use Rattle.session.proofs.moved.Statement as stated
-use Rattle.session.proofs.moved.Code as code
+use Rattle.reading_place.specs.declared.Session.{Session}
+use Rattle.reading_place.proofs.Session as T
+use Rattle.reading_place.proofs.Session.Laws as T′
+use Rattle.reading_place.proofs.moved.Key.{name as #reading-place·moved}
+use Rattle.reading_place.proofs.moved as moved
+use Rattle.reading_place.proofs.moved.Statement as stated
+use Rattle.reading_place.proofs.moved.Code as code
 
 -- the struct's type, over the signature's lifetimes
 abbrev B : Lfts 1 → RattleType
@@ -96,5 +96,5 @@ pub moved-spec : {M : Type 1} → stated.statement M
 unfolding code.routine tablesOf
 moved-spec 𝓤 H 𝓜 𝓖 𝓡 =
     entered 𝓤 H (tripleOf 𝓤 H (𝓖 .A) moved.signature (moved.spec 𝓤 H (𝓖 .A) (𝓜 .mem) (𝓡 .run)))
-    (tables 𝓤 H 𝓜 𝓡 code.env .C) (tables 𝓤 H 𝓜 𝓡 code.env .Λ) #session·moved code.function (code.unfolded 𝓤 H 𝓜 𝓡)
+    (tables 𝓤 H 𝓜 𝓡 code.env .C) (tables 𝓤 H 𝓜 𝓡 code.env .Λ) #reading-place·moved code.function (code.unfolded 𝓤 H 𝓜 𝓡)
     (moved-meets 𝓤 H (𝓖 .A) (givenOf 𝓤 H 𝓜 𝓖) (𝓜 .mem) (𝓡 .run) (tablesOf 𝓤 H 𝓜 (tables 𝓤 H 𝓜 𝓡 code.env)))

@@ -1,4 +1,4 @@
--- `session::open` meets its contract: a walk of its MIR. A `Session` is made of the slice passed and 0, in the result's local.
+-- `reading_place::open` meets its contract: a walk of its MIR. A `Session` is made of the slice passed and 0, in the result's local.
 -- A `&[u8]` is Copy, so what it owns is had twice: once for src at exit, and once inside the result, beside the facts of at.
 -- Assumes nothing.
 use mathlib.Core.Path.{refl}
@@ -35,13 +35,13 @@ use denote.Triple.Spec.{Meets, tripleOf}
 use denote.Triple.Table.{entered}
 use denote.Triple.Walked.{says, Stays, stay-none-slice, walkOf, goes-none-slice, Walks, ends-at, walked, walk-meets}
 use denote.Exit.{yes}
-use Rattle.session.specs.declared.Session.{Session}
-use Rattle.session.proofs.Session as T
-use Rattle.session.proofs.Session.Laws as T′
-use Rattle.session.proofs.open.Key.{name as #session·open}
-use Rattle.session.proofs.open as new
-use Rattle.session.proofs.open.Statement as stated
-use Rattle.session.proofs.open.Code as code
+use Rattle.reading_place.specs.declared.Session.{Session}
+use Rattle.reading_place.proofs.Session as T
+use Rattle.reading_place.proofs.Session.Laws as T′
+use Rattle.reading_place.proofs.open.Key.{name as #reading-place·open}
+use Rattle.reading_place.proofs.open as new
+use Rattle.reading_place.proofs.open.Statement as stated
+use Rattle.reading_place.proofs.open.Code as code
 
 abbrev stayed : Stays (new.ended .signature .params) (new.ended .kept)
 stayed = (stay-none-slice (0 ∷ []) tt (plain (λ _. u8)) yes, tt)
@@ -95,5 +95,5 @@ pub open-spec : {M : Type 1} → stated.statement M
 unfolding code.routine tablesOf
 open-spec 𝓤 H 𝓜 𝓖 𝓡 =
     entered 𝓤 H (tripleOf 𝓤 H (𝓖 .A) new.signature (new.spec 𝓤 H (𝓖 .A) (𝓜 .mem) (𝓡 .run)))
-    (tables 𝓤 H 𝓜 𝓡 code.env .C) (tables 𝓤 H 𝓜 𝓡 code.env .Λ) #session·open code.function (code.unfolded 𝓤 H 𝓜 𝓡)
+    (tables 𝓤 H 𝓜 𝓡 code.env .C) (tables 𝓤 H 𝓜 𝓡 code.env .Λ) #reading-place·open code.function (code.unfolded 𝓤 H 𝓜 𝓡)
     (new-meets 𝓤 H (𝓖 .A) (givenOf 𝓤 H 𝓜 𝓖) (𝓜 .mem) (𝓡 .run) (tablesOf 𝓤 H 𝓜 (tables 𝓤 H 𝓜 𝓡 code.env)))

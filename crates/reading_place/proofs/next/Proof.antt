@@ -1,4 +1,4 @@
--- `session::next` meets its contract: a walk of its MIR. The struct is taken apart, and `event_at` is called on the slice and the number. All that the proof knows of `event_at` is that it meets its contract.
+-- `reading_place::next` meets its contract: a walk of its MIR. The struct is taken apart, and `event_at` is called on the slice and the number. All that the proof knows of `event_at` is that it meets its contract.
 -- The struct is Copy: what it owns is had twice, one copy is kept whole for the exit, and of the other what src owns goes to the callee, beside the lifetime's token, which comes back.
 -- Assumes nothing.
 use mathlib.Core.Path.{_≡_, refl}
@@ -43,21 +43,21 @@ use denote.Triple.Table.{entered, cited}
 use denote.Triple.Walked.{says, Stays, stay-none, walkOf, goes-none, Walks, ends-at, walked, walk-meets}
 use denote.Exit.{yes}
 use denote.Triple.Clauses.{ensured, lasts}
 use Rattle.session.specs.Reading.{eventAt}
-use Rattle.session.specs.declared.Session.{Session}
+use Rattle.reading_place.specs.declared.Session.{Session}
 use Rattle.session.specs.declared.Item.{Item}
-use Rattle.session.proofs.Session as T
-use Rattle.session.proofs.Session.Laws as T′
+use Rattle.reading_place.proofs.Session as T
+use Rattle.reading_place.proofs.Session.Laws as T′
 use Rattle.session.proofs.Item as S
 use Rattle.session.proofs.Item.Laws as S′
 use Rattle.session.proofs.event_at as step
 use Rattle.session.proofs.event_at.Symbol as step-def
 use Rattle.session.proofs.event_at.Symbol.{name as #session·event-at}
 use Rattle.session.proofs.event_at.Met as step-thm
-use Rattle.session.proofs.next.Key.{name as #session·next}
-use Rattle.session.proofs.next as next
-use Rattle.session.proofs.next.Statement as stated
-use Rattle.session.proofs.next.Code as code
+use Rattle.reading_place.proofs.next.Key.{name as #reading-place·next}
+use Rattle.reading_place.proofs.next as next
+use Rattle.reading_place.proofs.next.Statement as stated
+use Rattle.reading_place.proofs.next.Code as code
 
 -- the struct's type, over the signature's lifetimes
 abbrev B : Lfts 1 → RattleType
@@ -161,6 +161,6 @@ pub next-spec : {M : Type 1} → stated.statement M
 unfolding code.routine tablesOf
 next-spec 𝓤 H 𝓜 𝓖 𝓡 =
     entered 𝓤 H (tripleOf 𝓤 H (𝓖 .A) next.signature (next.spec 𝓤 H (𝓖 .A) (𝓜 .mem) (𝓡 .run)))
-    (tables 𝓤 H 𝓜 𝓡 code.env .C) (tables 𝓤 H 𝓜 𝓡 code.env .Λ) #session·next code.function (code.unfolded 𝓤 H 𝓜 𝓡)
+    (tables 𝓤 H 𝓜 𝓡 code.env .C) (tables 𝓤 H 𝓜 𝓡 code.env .Λ) #reading-place·next code.function (code.unfolded 𝓤 H 𝓜 𝓡)
     (next-meets 𝓤 H (𝓖 .A) (givenOf 𝓤 H 𝓜 𝓖) (𝓜 .mem) (𝓡 .run) (tablesOf 𝓤 H 𝓜 (tables 𝓤 H 𝓜 𝓡 code.env))
     (cited 𝓤 H (StepAt 𝓤 H (𝓖 .A) (𝓜 .mem) (𝓡 .run)) 𝓜 𝓡 code.env #session·event-at step-def.routine code.calls-session·event-at (step-thm.met 𝓤 H 𝓜 𝓖 𝓡)))

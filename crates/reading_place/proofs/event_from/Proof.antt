@@ -1,4 +1,4 @@
--- `session::event_from` meets its contract: a walk of its MIR. The `Session` that one call returns is held in a local and passed to the next. All that the proof knows of `open`, `moved` and `next` is that each meets its contract.
+-- `reading_place::event_from` meets its contract: a walk of its MIR. The `Session` that one call returns is held in a local and passed to the next. All that the proof knows of `open`, `moved` and `next` is that each meets its contract.
 -- The machine value that a call returns is stored and passed on as it is. In a local of a body MIR erases the lifetime of the struct's type, so the value is shown to have the type at `erased`: what the struct owns does not say the lifetime's name.
 -- Assumes nothing.
 use mathlib.Core.Path.{_≡_, refl, ap, _∙_}
@@ -38,29 +38,29 @@ use denote.Triple.Table.{entered, cited}
 use denote.Triple.Walked.{says, Stays, stay-none, stay-none-slice, walkOf, goes-none, goes-none-slice, Walks, ends-at, walked, walk-meets}
 use denote.Exit.{yes}
 use denote.Triple.Clauses.{ensured, lasts}
 use Rattle.session.specs.Reading.{eventAt}
-use Rattle.session.specs.declared.Session.{Session}
+use Rattle.reading_place.specs.declared.Session.{Session}
 use Rattle.session.specs.declared.Item.{Item}
-use Rattle.session.proofs.Session as T
-use Rattle.session.proofs.Session.Laws as T′
+use Rattle.reading_place.proofs.Session as T
+use Rattle.reading_place.proofs.Session.Laws as T′
 use Rattle.session.proofs.Item as S
 use Rattle.session.proofs.Item.Laws as S′
-use Rattle.session.proofs.open as new
-use Rattle.session.proofs.open.Symbol as new-def
-use Rattle.session.proofs.open.Symbol.{name as #session·open}
-use Rattle.session.proofs.open.Met as new-thm
-use Rattle.session.proofs.moved as moved
-use Rattle.session.proofs.moved.Symbol as moved-def
-use Rattle.session.proofs.moved.Symbol.{name as #session·moved}
-use Rattle.session.proofs.moved.Met as moved-thm
-use Rattle.session.proofs.next as next
-use Rattle.session.proofs.next.Symbol as next-def
-use Rattle.session.proofs.next.Symbol.{name as #session·next}
-use Rattle.session.proofs.next.Met as next-thm
-use Rattle.session.proofs.event_from.Key.{name as #session·event-from}
-use Rattle.session.proofs.event_from as from-place
-use Rattle.session.proofs.event_from.Statement as stated
-use Rattle.session.proofs.event_from.Code as code
+use Rattle.reading_place.proofs.open as new
+use Rattle.reading_place.proofs.open.Symbol as new-def
+use Rattle.reading_place.proofs.open.Symbol.{name as #reading-place·open}
+use Rattle.reading_place.proofs.open.Met as new-thm
+use Rattle.reading_place.proofs.moved as moved
+use Rattle.reading_place.proofs.moved.Symbol as moved-def
+use Rattle.reading_place.proofs.moved.Symbol.{name as #reading-place·moved}
+use Rattle.reading_place.proofs.moved.Met as moved-thm
+use Rattle.reading_place.proofs.next as next
+use Rattle.reading_place.proofs.next.Symbol as next-def
+use Rattle.reading_place.proofs.next.Symbol.{name as #reading-place·next}
+use Rattle.reading_place.proofs.next.Met as next-thm
+use Rattle.reading_place.proofs.event_from.Key.{name as #reading-place·event-from}
+use Rattle.reading_place.proofs.event_from as from-place
+use Rattle.reading_place.proofs.event_from.Statement as stated
+use Rattle.reading_place.proofs.event_from.Code as code
 
 -- the struct's type, over the signature's lifetimes
 abbrev B : Lfts 1 → RattleType
@@ -144,7 +144,7 @@ module _ {M : Type 1} (𝓤 : URA M) (H : Heap 𝓤) (A : Atoms 𝓤) (W : Given
       suffices ! _ (ends-at 𝓤 H A from-place.ended stayed (from-place.clauses 𝓤 H A mem run) W (((κ, tt), (q, tt), tt, (s, (n, tt)), at), tt) u t (tt, (tt, tt)) (tt, (tt, tt))) $ says ! e $
       move ! (1 ∷ []) $ frame ! $ nothing ! $ owned ! usize (Is usize) (uint-makes 𝓤 H A W w64) n _ (refl, ok) $ fjoin ! $ move ! (2 ∷ 0 ∷ []) $ fjoin ! $ frame ! $ done !
 
-  module _ (C : Calls 𝓤 H) (Λ : Loops 𝓤 H) (fm : FmC 𝓤 H (W .laws) C) (known-new : Triple 𝓤 (C #session·open) (New 𝓤 H A mem run)) (known-moved : Triple 𝓤 (C #session·moved) (Moved 𝓤 H A mem run)) (known-next : Triple 𝓤 (C #session·next) (Next 𝓤 H A mem run)) where
+  module _ (C : Calls 𝓤 H) (Λ : Loops 𝓤 H) (fm : FmC 𝓤 H (W .laws) C) (known-new : Triple 𝓤 (C #reading-place·open) (New 𝓤 H A mem run)) (known-moved : Triple 𝓤 (C #reading-place·moved) (Moved 𝓤 H A mem run)) (known-next : Triple 𝓤 (C #reading-place·next) (Next 𝓤 H A mem run)) where
     walk : Is (ShrSlice (named 0) κ u8) s (v ∷ []) → ent 𝓤 (onEntry 𝓤 H A from-place.signature (κ, tt) (q, tt) (s, (n, tt)) at) (WpFn 𝓤 H C Λ code.function (v ∷ vint w64 n ∷ []) Post)
     walk p =
         qed W (raw (onEntry 𝓤 H A from-place.signature (κ, tt) (q, tt) (s, (n, tt)) at) ∷ []) ∵ enter ! C Λ code.function (v ∷ vint w64 n ∷ []) _ $
@@ -176,13 +176,13 @@ module _ {M : Type 1} (𝓤 : URA M) (H : Heap 𝓤) (A : Atoms 𝓤) (W : Given
         by ! (exits t u′ (e′ ∙ (ap (λ (x : RefT (List ℕ)). eventAt (now x) (d .at)) (m .0 ∙ e .0) ∙ ap (eventAt (now s)) (m .1)))))))))))))))))))))
 
 module _ {M : Type 1} (𝓤 : URA M) (H : Heap 𝓤) (A : Atoms 𝓤) (W : Given 𝓤 H A) (mem : Memory → SProp 𝓤) (run : Routine → Fun 𝓤) where
-  event-walks : (C : Calls 𝓤 H) (Λ : Loops 𝓤 H) → FmC 𝓤 H (W .laws) C → Triple 𝓤 (C #session·open) (New 𝓤 H A mem run) → Triple 𝓤 (C #session·moved) (Moved 𝓤 H A mem run) → Triple 𝓤 (C #session·next) (Next 𝓤 H A mem run)
+  event-walks : (C : Calls 𝓤 H) (Λ : Loops 𝓤 H) → FmC 𝓤 H (W .laws) C → Triple 𝓤 (C #reading-place·open) (New 𝓤 H A mem run) → Triple 𝓤 (C #reading-place·moved) (Moved 𝓤 H A mem run) → Triple 𝓤 (C #reading-place·next) (Next 𝓤 H A mem run)
       → Walks 𝓤 H A from-place.ended stayed (WpFn 𝓤 H C Λ code.function) (from-place.clauses 𝓤 H A mem run)
   event-walks C Λ fm known-new known-moved known-next = walked 𝓤 H A from-place.ended stayed (from-place.clauses 𝓤 H A mem run) (WpFn 𝓤 H C Λ code.function) (λ κs. (slice-vals, (uint-vals w64, tt))) (λ κs. (shr-slice-tells (named 0) (κs .0) u8, (uint-tells w64, tt)))
       (λ κs qs bounds a g are. via 𝓤 _ (fst∗ 𝓤 _ (emp 𝓤)) (walk 𝓤 H A W mem run (κs .0) (qs .0) (a .0) (a .1 .0) (are .1 .0 .1) C Λ fm known-new known-moved known-next (are .0)))
 
 event-meets : {M : Type 1} (𝓤 : URA M) (H : Heap 𝓤) (A : Atoms 𝓤) (W : Given 𝓤 H A) (mem : Memory → SProp 𝓤) (run : Routine → Fun 𝓤) (𝓣 : Tables 𝓤 H)
-    → Triple 𝓤 (𝓣 .C #session·open) (New 𝓤 H A mem run) → Triple 𝓤 (𝓣 .C #session·moved) (Moved 𝓤 H A mem run) → Triple 𝓤 (𝓣 .C #session·next) (Next 𝓤 H A mem run)
+    → Triple 𝓤 (𝓣 .C #reading-place·open) (New 𝓤 H A mem run) → Triple 𝓤 (𝓣 .C #reading-place·moved) (Moved 𝓤 H A mem run) → Triple 𝓤 (𝓣 .C #reading-place·next) (Next 𝓤 H A mem run)
     → Meets 𝓤 H A from-place.signature (WpFn 𝓤 H (𝓣 .C) (𝓣 .Λ) code.function) (from-place.spec 𝓤 H A mem run)
 event-meets 𝓤 H A W mem run 𝓣 known-new known-moved known-next = walk-meets 𝓤 H A from-place.ended stayed W (goes-none-slice 𝓤 H A W 1 (0 ∷ []) tt (plain (λ _. u8)) yes, (goes-none 𝓤 H A W 1 (λ _. usize) yes (λ κs x f. refl), tt)) (from-place.clauses 𝓤 H A mem run) (WpFn 𝓤 H (𝓣 .C) (𝓣 .Λ) code.function) (WpFn-mono 𝓤 H (W .laws) 𝓣 code.function)
     (event-walks 𝓤 H A W mem run (𝓣 .C) (𝓣 .Λ) (fmOf 𝓤 H (W .laws) 𝓣) known-new known-moved known-next)
@@ -191,8 +191,8 @@ pub event-from-spec : {M : Type 1} → stated.statement M
 unfolding code.routine tablesOf
 event-from-spec 𝓤 H 𝓜 𝓖 𝓡 =
     entered 𝓤 H (tripleOf 𝓤 H (𝓖 .A) from-place.signature (from-place.spec 𝓤 H (𝓖 .A) (𝓜 .mem) (𝓡 .run)))
-    (tables 𝓤 H 𝓜 𝓡 code.env .C) (tables 𝓤 H 𝓜 𝓡 code.env .Λ) #session·event-from code.function (code.unfolded 𝓤 H 𝓜 𝓡)
+    (tables 𝓤 H 𝓜 𝓡 code.env .C) (tables 𝓤 H 𝓜 𝓡 code.env .Λ) #reading-place·event-from code.function (code.unfolded 𝓤 H 𝓜 𝓡)
     (event-meets 𝓤 H (𝓖 .A) (givenOf 𝓤 H 𝓜 𝓖) (𝓜 .mem) (𝓡 .run) (tablesOf 𝓤 H 𝓜 (tables 𝓤 H 𝓜 𝓡 code.env))
-    (cited 𝓤 H (New 𝓤 H (𝓖 .A) (𝓜 .mem) (𝓡 .run)) 𝓜 𝓡 code.env #session·open new-def.routine code.calls-session·open (new-thm.met 𝓤 H 𝓜 𝓖 𝓡))
-    (cited 𝓤 H (Moved 𝓤 H (𝓖 .A) (𝓜 .mem) (𝓡 .run)) 𝓜 𝓡 code.env #session·moved moved-def.routine code.calls-session·moved (moved-thm.met 𝓤 H 𝓜 𝓖 𝓡))
-    (cited 𝓤 H (Next 𝓤 H (𝓖 .A) (𝓜 .mem) (𝓡 .run)) 𝓜 𝓡 code.env #session·next next-def.routine code.calls-session·next (next-thm.met 𝓤 H 𝓜 𝓖 𝓡)))
+    (cited 𝓤 H (New 𝓤 H (𝓖 .A) (𝓜 .mem) (𝓡 .run)) 𝓜 𝓡 code.env #reading-place·open new-def.routine code.calls-reading-place·open (new-thm.met 𝓤 H 𝓜 𝓖 𝓡))
+    (cited 𝓤 H (Moved 𝓤 H (𝓖 .A) (𝓜 .mem) (𝓡 .run)) 𝓜 𝓡 code.env #reading-place·moved moved-def.routine code.calls-reading-place·moved (moved-thm.met 𝓤 H 𝓜 𝓖 𝓡))
+    (cited 𝓤 H (Next 𝓤 H (𝓖 .A) (𝓜 .mem) (𝓡 .run)) 𝓜 𝓡 code.env #reading-place·next next-def.routine code.calls-reading-place·next (next-thm.met 𝓤 H 𝓜 𝓖 𝓡)))
