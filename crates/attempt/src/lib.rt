@@ -58,7 +58,8 @@ fn due(x: Coded, k: u16) -> u8
     ensures { λ r. ⌜ r ≡ rule.due x k ⌝ }
 {
     if k == 51 + 10 * (x.n as u16) {
-        if channels::acknowledge_asked(x.bytes[1]) {
+        let bits = channels::command_of(x.bytes[1]);
+        if bits.acknowledge {
             return PRESENT;
         }
         return driver::level_at(x, k);

@@ -123,7 +123,10 @@ fn rear_commanded(s: Service, v: u8) -> Service
 fn keep_byte(m: &mut [u8; 256], address: usize, v: u8)
     ensures { λ _. ⌜ now (m .exit) ≡ rule.keptByte (now (m .entry)) address v ⌝ }
 {
-    if Map::write_only(address) {
+    if address == Map::COMMAND {
+        return;
+    }
+    if address == Map::INTERRUPT_RESET {
         return;
     }
     m[address % 256] = v;

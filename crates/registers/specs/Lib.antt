@@ -1,2 +1,3 @@
+pub mod Access
 pub mod Command
 pub mod Reserved
