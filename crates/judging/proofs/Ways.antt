@@ -3,7 +3,6 @@ use Prim.Native.Nat.{ℕ}
 use mathlib.Core.Bool.{Bool, true, false, false≢true}
 use mathlib.Core.List.{List}
 use mathlib.Core.Path.{_≡_, refl, sym, _∙_, ap}
-use Rattle.line.specs.Bits.{pick}
 use Rattle.line.specs.Laws.{pick-same}
 use Rattle.rules.specs.Registers.{both}
 use Rattle.rules.specs.Delivery.{deliveryOf, deliveryTo, memoryDelivered, reportHeard, reportDelivered}
