@@ -58,8 +58,7 @@ fn due(x: Coded, k: u16) -> u8
     ensures { λ r. ⌜ r ≡ rule.due x k ⌝ }
 {
     if k == 51 + 10 * (x.n as u16) {
-        let bits = channels::command_of(x.bytes[1]);
-        if bits.acknowledge {
+        if channels::acknowledge_asked(x.bytes[1]) {
             return PRESENT;
         }
         return driver::level_at(x, k);

@@ -35,9 +35,8 @@ fn whole(nibbles: u8, longest: u8) -> bool
 fn reply_request(low: u8) -> bool
     ensures { λ r. ⌜ r ≡ rule.replyRequest low ⌝ }
 {
-    let bits = channels::command_of(low);
-    if bits.extension {
-        return (bits.read) & (bits.remote);
+    if channels::extension(low) {
+        return (channels::reads(low)) & (channels::remote(low));
     }
     false
 }

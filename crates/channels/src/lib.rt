@@ -3,7 +3,6 @@
 ghost use mathlib.Core.Path.{_≡_};
 ghost use Prim.Native.Nat.{_≤_};
 ghost use Rattle.rules.specs.Channels as rule;
-ghost use Rattle.channels.specs.Command as bits;
 use rules::Buffer;
 use rules::Channel;
 
@@ -11,24 +10,32 @@ pub const CHANNELS: u8 = 14;
 
 // ---- the bits of byte 1
 
-// EXT, RAK, R/W, RTR.
-pub struct CommandBits {
-    pub extension: bool,
-    pub acknowledge: bool,
-    pub read: bool,
-    pub remote: bool,
+// EXT.
+pub fn extension(low: u8) -> bool
+    ensures { λ r. ⌜ r ≡ rule.extension low ⌝ }
+{
+    low / 8 % 2 == 1
 }
 
-// The command bits of byte 1, of a frame or of a channel.
-pub fn command_of(low: u8) -> CommandBits
-    ensures { λ r. ⌜ r ≡ bits.commandOf low ⌝ }
+// RAK.
+pub fn acknowledge_asked(low: u8) -> bool
+    ensures { λ r. ⌜ r ≡ rule.acknowledgeAsked low ⌝ }
 {
-    CommandBits {
-        extension: low / 8 % 2 == 1,
-        acknowledge: low / 4 % 2 == 1,
-        read: low / 2 % 2 == 1,
-        remote: low % 2 == 1,
-    }
+    low / 4 % 2 == 1
+}
+
+// R/W.
+pub fn reads(low: u8) -> bool
+    ensures { λ r. ⌜ r ≡ rule.reads low ⌝ }
+{
+    low / 2 % 2 == 1
+}
+
+// RTR.
+pub fn remote(low: u8) -> bool
+    ensures { λ r. ⌜ r ≡ rule.remote low ⌝ }
+{
+    low % 2 == 1
 }
 
 // ---- a channel's bytes

@@ -123,10 +123,7 @@ fn rear_commanded(s: Service, v: u8) -> Service
 fn keep_byte(m: &mut [u8; 256], address: usize, v: u8)
     ensures { λ _. ⌜ now (m .exit) ≡ rule.keptByte (now (m .entry)) address v ⌝ }
 {
-    if address == Map::COMMAND {
-        return;
-    }
-    if address == Map::INTERRUPT_RESET {
+    if Map::write_only(address) {
         return;
     }
     m[address % 256] = v;

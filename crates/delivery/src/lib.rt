@@ -1,7 +1,6 @@
 // What another module's frame does to the channel that takes it (01, Receiving).
 ghost use mathlib.Core.Path.{_≡_};
 ghost use Rattle.rules.specs.Delivery as rule;
-use marks::Flag;
 use rules::Delivery;
 use rules::Hearing;
 use rules::Reception;
@@ -50,7 +49,7 @@ fn store(m: &mut [u8; 256], r: Reception)
     let b = r.bytes;
     memory::store(m, w.pointer, b, reception::data_count(r.nibbles));
     marks::retag(m, w.channel, b[0], b[1]);
-    marks::mark(m, w.channel, Flag::Chrx);
+    marks::mark_chrx(m, w.channel);
 }
 
 // What a delivery writes to the map: the frame, or CHER.
@@ -61,7 +60,7 @@ pub fn deliver(m: &mut [u8; 256], d: Delivery, r: Reception)
     match d {
         Delivery::Nothing => {}
         Delivery::Stored => store(m, r),
-        Delivery::Overflowed => marks::mark(m, w.channel, Flag::Cher),
-        Delivery::Spoiled => marks::mark(m, w.channel, Flag::Cher),
+        Delivery::Overflowed => marks::mark_cher(m, w.channel),
+        Delivery::Spoiled => marks::mark_cher(m, w.channel),
     }
 }

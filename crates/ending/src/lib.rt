@@ -1,7 +1,6 @@
 // How a sending service ends, and the marks that this sets in its channel (01, Sending; 000, Retries, Rearbitrate and Abort).
 ghost use mathlib.Core.Path.{_≡_};
 ghost use Rattle.rules.specs.Service as rule;
-use marks::Flag;
 use rules::Coded;
 use rules::Effort;
 use rules::Ending;
@@ -83,12 +82,12 @@ pub fn end_memory(m: &mut [u8; 256], x: Ending, channel: u8)
 {
     match x {
         Ending::Going => {}
-        Ending::Sent => marks::mark(m, channel, Flag::Chtx),
+        Ending::Sent => marks::mark_chtx(m, channel),
         Ending::Exhausted => {
-            marks::mark(m, channel, Flag::Cher);
-            marks::mark(m, channel, Flag::Chtx);
+            marks::mark_cher(m, channel);
+            marks::mark_chtx(m, channel);
         }
-        Ending::Aborted => marks::mark(m, channel, Flag::Chtx),
+        Ending::Aborted => marks::mark_chtx(m, channel),
         Ending::Rearbitrated => {}
     }
 }

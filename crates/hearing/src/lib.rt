@@ -49,13 +49,13 @@ fn acknowledges(r: Reception) -> bool
     let w = r.winner;
     let b = r.bytes;
     let silent = w.silent;
-    let bits = channels::command_of(b[1]);
+    let asked = channels::acknowledge_asked(b[1]);
     if w.matched {
         if silent {
             return false;
         }
         if fits(w, reception::data_count(r.nibbles)) {
-            return bits.acknowledge;
+            return asked;
         }
         return false;
     }
@@ -84,8 +84,8 @@ fn hear_acknowledge(r: Reception, v: u8) -> Hearing
         return Hearing::Follows;
     }
     let b = r.bytes;
-    let bits = channels::command_of(b[1]);
-    if acknowledge_wrong(bits.acknowledge, acknowledges(r), r.bits % 2, v) {
+    let asked = channels::acknowledge_asked(b[1]);
+    if acknowledge_wrong(asked, acknowledges(r), r.bits % 2, v) {
         return Hearing::Fault(Code::FV);
     }
     Hearing::Follows

@@ -3,11 +3,9 @@ ghost use mathlib.Core.Path.{_≡_};
 ghost use Prim.Native.Nat.{_%_};
 ghost use lib.Dec.{eqb};
 ghost use Rattle.line.specs.Bits.{pick};
-ghost use Rattle.rules.specs.Registers as registers;
 ghost use Rattle.rules.specs.Host as rule;
 ghost use Rattle.rules.specs.Run as run;
 ghost use Rattle.rules.specs.Answers as answers;
-use registers::Access;
 use registers::Map;
 use rules::Core;
 use rules::CoreOutcome;
@@ -31,23 +29,6 @@ pub fn pin_reset_on(m: &mut [u8; 256], k: Core) -> CoreOutcome
     }
 }
 
-// 8, once the address may be written.
-fn write_open(m: &mut [u8; 256], k: Core, address: usize, value: u8) -> CoreOutcome
-    ensures { λ r. ⌜ answers.answerLent r (now (m .exit)) ≡ pick (eqb (pick (registers.fixedBits address value) 0 8) 0) (run.accept 0 (rule.written (answers.controller (now (m .entry)) k) address value)) (run.refuse (answers.controller (now (m .entry)) k) (pick (registers.fixedBits address value) 0 8)) ⌝ }
-{
-    if Map::fixed_bits(address, value) {
-        let t = command::written(m, k, address, value);
-        return CoreOutcome {
-            reply: Reply::Accepted(0), // only here the map changes
-            next: t,
-        };
-    }
-    CoreOutcome {
-        reply: Reply::Refused(Refusal::FixedBits),
-        next: k,
-    }
-}
-
 // 2, 3, 8, once the access is open.
 fn write_on(m: &mut [u8; 256], k: Core, address: u16, value: u16) -> CoreOutcome
     ensures { λ r. ⌜ answers.answerLent r (now (m .exit)) ≡ pick (eqb (rule.writeRefused address value) 0) (run.accept 0 (rule.written (answers.controller (now (m .entry)) k) address (value % 256))) (run.refuse (answers.controller (now (m .entry)) k) (rule.writeRefused address value)) ⌝ }
@@ -59,19 +40,29 @@ fn write_on(m: &mut [u8; 256], k: Core, address: u16, value: u16) -> CoreOutcome
             next: k,
         };
     }
+    if Map::read_only(a) {
+        return CoreOutcome {
+            reply: Reply::Refused(Refusal::Unwritable),
+            next: k,
+        };
+    }
+    if Map::reserved(a) {
+        return CoreOutcome {
+            reply: Reply::Refused(Refusal::Unwritable),
+            next: k,
+        };
+    }
     let v = (value % 256) as u8;
-    let access = Map::access(a);
-    match access {
-        Access::Open => write_open(m, k, a, v),
-        Access::ReadOnly => CoreOutcome {
-            reply: Reply::Refused(Refusal::Unwritable),
-            next: k,
-        },
-        Access::WriteOnly => write_open(m, k, a, v),
-        Access::Reserved => CoreOutcome {
-            reply: Reply::Refused(Refusal::Unwritable),
-            next: k,
-        },
+    if Map::fixed_bits(a, v) {
+        let t = command::written(m, k, a, v);
+        return CoreOutcome {
+            reply: Reply::Accepted(0), // only here the map changes
+            next: t,
+        };
+    }
+    CoreOutcome {
+        reply: Reply::Refused(Refusal::FixedBits),
+        next: k,
     }
 }
 

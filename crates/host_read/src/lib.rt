@@ -5,7 +5,6 @@ ghost use Rattle.line.specs.Bits.{pick};
 ghost use Rattle.rules.specs.Host as rule;
 ghost use Rattle.rules.specs.Run as run;
 ghost use Rattle.rules.specs.Answers as answers;
-use registers::Access;
 use registers::Map;
 use rules::Core;
 use rules::CoreOutcome;
@@ -46,6 +45,15 @@ fn status_read(k: Core, address: usize) -> u8
     status::interrupt_status(x.flags)
 }
 
+fn byte_read(m: &[u8; 256], k: Core, address: usize) -> u8
+    ensures { λ r. ⌜ r ≡ rule.byteRead (answers.controller (now (m .entry)) k) address ⌝ }
+{
+    if Map::read_only(address) {
+        return status_read(k, address);
+    }
+    m[address % 256]
+}
+
 // ---- the call
 
 // 4, once the access is open.
@@ -53,24 +61,21 @@ fn read_on(m: &[u8; 256], k: Core, address: u16) -> CoreOutcome
     ensures { λ r. ⌜ answers.answerLent r (now (m .entry)) ≡ pick (eqb (rule.readRefused address) 0) (run.accept (rule.byteRead (answers.controller (now (m .entry)) k) address) (answers.controller (now (m .entry)) k)) (run.refuse (answers.controller (now (m .entry)) k) (rule.readRefused address)) ⌝ }
 {
     let a = address as usize;
-    let access = Map::access(a);
-    match access {
-        Access::Open => CoreOutcome {
-            reply: Reply::Accepted(m[a % 256]),
-            next: k,
-        },
-        Access::ReadOnly => CoreOutcome {
-            reply: Reply::Accepted(status_read(k, a)),
-            next: k,
-        },
-        Access::WriteOnly => CoreOutcome {
+    if Map::write_only(a) {
+        return CoreOutcome {
             reply: Reply::Refused(Refusal::Unreadable),
             next: k,
-        },
-        Access::Reserved => CoreOutcome {
+        };
+    }
+    if Map::reserved(a) {
+        return CoreOutcome {
             reply: Reply::Refused(Refusal::Unreadable),
             next: k,
-        },
+        };
+    }
+    CoreOutcome {
+        reply: Reply::Accepted(byte_read(m, k, a)),
+        next: k,
     }
 }
 

@@ -1,25 +1,30 @@
 // What the controller writes to a channel: the marks in its status byte, and its tag (01, Receiving, Sending; 000, Channel Registers).
 // The map is lent and changed in place. A channel number is taken modulo 14.
 ghost use mathlib.Core.Path.{_≡_};
+ghost use Rattle.rules.specs.Channels as channel;
 ghost use Rattle.rules.specs.Mailbox as rule;
-ghost use Rattle.marks.specs.Mark as flags;
 
-// A mark in the status byte, +3.
-pub enum Flag {
-    Cher,
-    Chtx,
-    Chrx,
+// ---- the status byte
+
+// The byte +3 with CHER set.
+fn with_cher(status: u8) -> u8
+    ensures { λ r. ⌜ r ≡ channel.withCher status ⌝ }
+{
+    status / 8 * 8 + 4 + status % 4
 }
 
-// The byte +3 with a mark set.
-fn with_flag(flag: Flag, status: u8) -> u8
-    ensures { λ r. ⌜ r ≡ flags.withFlag flag status ⌝ }
+// The byte +3 with CHTx set.
+fn with_chtx(status: u8) -> u8
+    ensures { λ r. ⌜ r ≡ channel.withChtx status ⌝ }
 {
-    match flag {
-        Flag::Cher => status / 8 * 8 + 4 + status % 4,
-        Flag::Chtx => status / 4 * 4 + 2 + status % 2,
-        Flag::Chrx => status / 2 * 2 + 1,
-    }
+    status / 4 * 4 + 2 + status % 2
+}
+
+// The byte +3 with CHRx set.
+fn with_chrx(status: u8) -> u8
+    ensures { λ r. ⌜ r ≡ channel.withChrx status ⌝ }
+{
+    status / 2 * 2 + 1
 }
 
 // ---- a channel of the map
@@ -34,10 +39,26 @@ pub fn retag(m: &mut [u8; 256], c: u8, high: u8, low: u8)
     m[at + 1] = low / 16 * 16 + kept;
 }
 
-// A mark set in channel c.
-pub fn mark(m: &mut [u8; 256], c: u8, flag: Flag)
-    ensures { λ _. ⌜ now (m .exit) ≡ flags.marked flag (now (m .entry)) c ⌝ }
+// CHER set in channel c.
+pub fn mark_cher(m: &mut [u8; 256], c: u8)
+    ensures { λ _. ⌜ now (m .exit) ≡ rule.markedCher (now (m .entry)) c ⌝ }
 {
     let at = channels::base(c) + 3;
-    m[at] = with_flag(flag, m[at]);
+    m[at] = with_cher(m[at]);
+}
+
+// CHTx set in channel c.
+pub fn mark_chtx(m: &mut [u8; 256], c: u8)
+    ensures { λ _. ⌜ now (m .exit) ≡ rule.markedChtx (now (m .entry)) c ⌝ }
+{
+    let at = channels::base(c) + 3;
+    m[at] = with_chtx(m[at]);
+}
+
+// CHRx set in channel c.
+pub fn mark_chrx(m: &mut [u8; 256], c: u8)
+    ensures { λ _. ⌜ now (m .exit) ≡ rule.markedChrx (now (m .entry)) c ⌝ }
+{
+    let at = channels::base(c) + 3;
+    m[at] = with_chrx(m[at]);
 }

@@ -50,45 +50,42 @@ fn matches(tag: u16, mask: u16, identifier: u16) -> bool
 fn listens_for_data(x: Channel) -> bool
     ensures { λ r. ⌜ r ≡ rule.listensForData x ⌝ }
 {
-    let bits = channels::command_of(x.low);
-    if bits.read {
+    if channels::reads(x.low) {
         return false;
     }
     let received = chrx(x.status);
     if received {
         return false;
     }
-    bits.remote
+    channels::remote(x.low)
 }
 
 // 1,0,1,0 takes reply requests.
 fn listens_for_requests(x: Channel) -> bool
     ensures { λ r. ⌜ r ≡ rule.listensForRequests x ⌝ }
 {
-    let bits = channels::command_of(x.low);
-    if bits.remote {
+    if channels::remote(x.low) {
         return false;
     }
     let requested = chrx(x.status);
     if requested {
         return false;
     }
-    (bits.read) & (chtx(x.status))
+    (channels::reads(x.low)) & (chtx(x.status))
 }
 
 // Whether the channel's status takes a frame of this command: a data frame (R/W 0, RTR 0) or a reply request (1, 1), EXT 1.
 fn listens(x: Channel, low: u8) -> bool
     ensures { λ r. ⌜ r ≡ rule.listens x low ⌝ }
 {
-    let bits = channels::command_of(low);
-    if bits.extension {
-        if bits.read {
-            if bits.remote {
+    if channels::extension(low) {
+        if channels::reads(low) {
+            if channels::remote(low) {
                 return listens_for_requests(x);
             }
             return false;
         }
-        if bits.remote {
+        if channels::remote(low) {
             return false;
         }
         return listens_for_data(x);
@@ -178,17 +175,16 @@ pub fn winner_for(m: &[u8; 256], high: u8, low: u8) -> Winner
 fn asks_to_send(x: Channel) -> bool
     ensures { λ r. ⌜ r ≡ rule.asksToSend x ⌝ }
 {
-    let bits = channels::command_of(x.low);
     if channels::cher(x.status) {
         return false;
     }
-    if bits.remote {
+    if channels::remote(x.low) {
         return false;
     }
     if chtx(x.status) {
         return false;
     }
-    if bits.read {
+    if channels::reads(x.low) {
         return chrx(x.status);
     }
     true

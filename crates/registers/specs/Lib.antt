@@ -1,3 +1,2 @@
-pub mod Access
 pub mod Command
 pub mod Reserved

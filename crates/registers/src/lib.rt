@@ -4,7 +4,6 @@ ghost use mathlib.Core.Path.{_≡_};
 ghost use mathlib.Core.Bool.{true, false};
 ghost use Rattle.rules.specs.Registers as rule;
 ghost use Rattle.rules.specs.Mailbox as memory;
-ghost use Rattle.registers.specs.Access as host;
 ghost use Rattle.registers.specs.Command as map;
 ghost use Rattle.registers.specs.Reserved as reserved;
 use rules::Flags;
@@ -18,14 +17,6 @@ pub struct Command {
     pub idle: bool,
     pub activation: bool,
     pub rearbitration: bool,
-}
-
-// What a host may do at an address.
-pub enum Access {
-    Open,
-    ReadOnly,
-    WriteOnly,
-    Reserved,
 }
 
 // The register map: address, reset value, and reserved or fixed bits of each control register.
@@ -95,7 +86,7 @@ impl Map {
     pub const RESERVED_TO: usize = 0x0F;
 
     // Whether a host may only read the address.
-    fn read_only(address: usize) -> bool
+    pub fn read_only(address: usize) -> bool
         ensures { λ r. ⌜ r ≡ rule.readOnly address ⌝ }
     {
         if address == Map::INTERRUPT_STATUS {
@@ -105,7 +96,7 @@ impl Map {
     }
 
     // Whether a host may only write the address.
-    fn write_only(address: usize) -> bool
+    pub fn write_only(address: usize) -> bool
         ensures { λ r. ⌜ r ≡ rule.writeOnly address ⌝ }
     {
         if address == Map::COMMAND {
@@ -115,29 +106,13 @@ impl Map {
     }
 
     // Whether a host may neither read nor write the address.
-    fn reserved(address: usize) -> bool
+    pub fn reserved(address: usize) -> bool
         ensures { λ r. ⌜ r ≡ rule.reserved address ⌝ }
     {
         if address == Map::RESERVED {
             return true;
         }
         (Map::RESERVED_FROM <= address) & (address <= Map::RESERVED_TO)
-    }
-
-    // What a host may do at the address.
-    pub fn access(address: usize) -> Access
-        ensures { λ r. ⌜ r ≡ host.accessOf address ⌝ }
-    {
-        if Map::read_only(address) {
-            return Access::ReadOnly;
-        }
-        if Map::write_only(address) {
-            return Access::WriteOnly;
-        }
-        if Map::reserved(address) {
-            return Access::Reserved;
-        }
-        Access::Open
     }
 
     // Whether the fixed bits of 0x01 (version 001) and of 0x03 (zeros) are as they must be.

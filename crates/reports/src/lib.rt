@@ -68,10 +68,7 @@ fn report_delivered(d: Delivery, x: Report, r: Reception) -> Report
     let b = r.bytes;
     match d {
         Delivery::Nothing => x,
-        Delivery::Stored => {
-            let bits = channels::command_of(b[1]);
-            report_stored(x, bits.acknowledge, w.channel)
-        }
+        Delivery::Stored => report_stored(x, channels::acknowledge_asked(b[1]), w.channel),
         Delivery::Overflowed => with_receive_error(with_error(x, Code::BOV)),
         Delivery::Spoiled => with_receive_error(x),
     }

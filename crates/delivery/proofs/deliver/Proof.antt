@@ -1,11 +1,10 @@
 use borrow.Author.Needs.{needs}
 use Rattle.rules.specs.Delivery.{memoryDelivered}
-use Rattle.marks.specs.Mark.{marked}
 use Rattle.delivery.proofs.deliver.Statement.{statement}
 use Rattle.delivery.proofs.deliver.Tie as tie
 
 pub deliver-spec : {M : Type 1} → statement M
-unfolding memoryDelivered marked
+unfolding memoryDelivered
 deliver-spec =
     tie.close (tie.spec
     (λ c. search needs)
@@ -17,5 +16,5 @@ deliver-spec =
     (λ c κs. tt)
     (λ c. simp (c .enum-told .given .1))
     (λ c. simp (← (c .store .ensures), c .before .before .enum-told2 .given .1))
-    (λ c. simp (← (c .mark .ensures), c .before .before .enum-told3 .given .1))
-    (λ c. simp (← (c .mark2 .ensures), c .before .before .enum-told4 .given .1)))
+    (λ c. simp (← (c .mark-cher .ensures), c .before .before .enum-told3 .given .1))
+    (λ c. simp (← (c .mark-cher2 .ensures), c .before .before .enum-told4 .given .1)))

@@ -1,10 +1,10 @@
 use Rattle.rules.specs.Service.{memoryEnded}
-use Rattle.marks.specs.Mark.{marked}
+use Rattle.rules.specs.Mailbox.{markedChtx, markedCher}
 use Rattle.ending.proofs.end_memory.Statement.{statement}
 use Rattle.ending.proofs.end_memory.Tie as tie
 
 pub end-memory-spec : {M : Type 1} → statement M
-unfolding memoryEnded marked
+unfolding memoryEnded markedChtx markedCher
 end-memory-spec =
     tie.close (tie.spec
     (λ c. c .match .keys1)
@@ -17,7 +17,7 @@ end-memory-spec =
     (λ c κs. tt)
     (λ c. c .match .keys5)
     (λ c. simp (c .enum-told .given .1))
-    (λ c. simp (← (c .mark .ensures), c .before .before .enum-told2 .given .1))
-    (λ c. simp (← (c .mark3 .ensures), ← (c .before .before .mark2 .ensures), c .before .before .before .before .enum-told3 .given .1))
-    (λ c. simp (← (c .mark4 .ensures), c .before .before .enum-told4 .given .1))
+    (λ c. simp (← (c .mark-chtx .ensures), c .before .before .enum-told2 .given .1))
+    (λ c. simp (← (c .mark-chtx2 .ensures), ← (c .before .before .mark-cher .ensures), c .before .before .before .before .enum-told3 .given .1))
+    (λ c. simp (← (c .mark-chtx3 .ensures), c .before .before .enum-told4 .given .1))
     (λ c. simp (c .enum-told5 .given .1)))

@@ -1,13 +1,10 @@
 use borrow.Author.Needs.{needs}
-use mathlib.Core.Path.{ap}
 use Rattle.rules.specs.Hearing.{acknowledges}
-use Rattle.channels.specs.Command.{commandOf}
-use Rattle.channels.specs.declared.CommandBits.{CommandBits}
 use Rattle.hearing.proofs.acknowledges.Statement.{statement}
 use Rattle.hearing.proofs.acknowledges.Tie as tie
 
 pub acknowledges-spec : {M : Type 1} → statement M
-unfolding acknowledges commandOf
+unfolding acknowledges
 acknowledges-spec =
     tie.close (tie.spec
     (λ c. search needs)
@@ -15,6 +12,6 @@ acknowledges-spec =
     (λ c. simp (c .if2 .taken, c .before .if1 .taken))
     (λ c κs. tt)
     (λ c κs. tt)
-    (λ c. simp (c .if3 .taken, c .before .before .before .if2 .left, c .before .before .before .before .if1 .taken, ← (c .before .fits2 .ensures), ← (c .before .before .data-count .ensures), ← (ap (λ (x : CommandBits). x .acknowledge) (c .before .before .before .before .before .command-of .ensures))))
-    (λ c. simp (c .if3 .left, c .before .before .before .if2 .left, c .before .before .before .before .if1 .taken, ← (c .before .fits2 .ensures), ← (c .before .before .data-count .ensures), ← (ap (λ (x : CommandBits). x .acknowledge) (c .before .before .before .before .before .command-of .ensures))))
+    (λ c. simp (c .if3 .taken, c .before .before .before .if2 .left, c .before .before .before .before .if1 .taken, ← (c .before .fits2 .ensures), ← (c .before .before .data-count .ensures), ← (c .before .before .before .before .before .acknowledge-asked .ensures)))
+    (λ c. simp (c .if3 .left, c .before .before .before .if2 .left, c .before .before .before .before .if1 .taken, ← (c .before .fits2 .ensures), ← (c .before .before .data-count .ensures), ← (c .before .before .before .before .before .acknowledge-asked .ensures)))
     (λ c. simp (c .if1 .left)))

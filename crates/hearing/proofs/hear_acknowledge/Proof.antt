@@ -1,14 +1,11 @@
 use borrow.Author.Needs.{needs}
 use borrow.Author.Tests.{eq-eqb, ne-eqb}
-use mathlib.Core.Path.{ap}
 use Rattle.rules.specs.Hearing.{hearAcknowledge}
-use Rattle.channels.specs.Command.{commandOf}
-use Rattle.channels.specs.declared.CommandBits.{CommandBits}
 use Rattle.hearing.proofs.hear_acknowledge.Statement.{statement}
 use Rattle.hearing.proofs.hear_acknowledge.Tie as tie
 
 pub hear-acknowledge-spec : {M : Type 1} → statement M
-unfolding hearAcknowledge commandOf
+unfolding hearAcknowledge
 hear-acknowledge-spec =
     tie.close (tie.spec
     (λ c. simp (eq-eqb _ _ (c .if1 .taken)))
@@ -16,5 +13,5 @@ hear-acknowledge-spec =
     (λ c κs. tt)
     (λ c κs. tt)
     (λ c κs. tt)
-    (λ c. simp (c .if2 .taken, ne-eqb _ _ (c .before .before .before .before .before .before .if1 .left), ← (c .before .acknowledge-wrong .ensures), ← (c .before .before .before .acknowledges .ensures), ← (ap (λ (x : CommandBits). x .acknowledge) (c .before .before .before .before .command-of .ensures))))
-    (λ c. simp (c .if2 .left, ne-eqb _ _ (c .before .before .before .before .before .before .if1 .left), ← (c .before .acknowledge-wrong .ensures), ← (c .before .before .before .acknowledges .ensures), ← (ap (λ (x : CommandBits). x .acknowledge) (c .before .before .before .before .command-of .ensures)))))
+    (λ c. simp (c .if2 .taken, ne-eqb _ _ (c .before .before .before .before .before .before .if1 .left), ← (c .before .acknowledge-wrong .ensures), ← (c .before .before .before .acknowledges .ensures), ← (c .before .before .before .before .acknowledge-asked .ensures)))
+    (λ c. simp (c .if2 .left, ne-eqb _ _ (c .before .before .before .before .before .before .if1 .left), ← (c .before .acknowledge-wrong .ensures), ← (c .before .before .before .acknowledges .ensures), ← (c .before .before .before .before .acknowledge-asked .ensures))))

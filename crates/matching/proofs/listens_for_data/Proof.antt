@@ -1,16 +1,14 @@
-use mathlib.Core.Path.{ap}
 use Rattle.rules.specs.Channels.{listensForData}
-use Rattle.channels.specs.Command.{commandOf}
-use Rattle.channels.specs.declared.CommandBits.{CommandBits}
 use Rattle.matching.proofs.listens_for_data.Statement.{statement}
 use Rattle.matching.proofs.listens_for_data.Tie as tie
 
 pub listens-for-data-spec : {M : Type 1} → statement M
-unfolding listensForData commandOf
+unfolding listensForData
 listens-for-data-spec =
     tie.close (tie.spec
     (λ c κs. tt)
-    (λ c. simp (c .if1 .taken, ← (ap (λ (x : CommandBits). x .read) (c .before .command-of .ensures))))
+    (λ c. simp (c .if1 .taken, ← (c .before .reads .ensures)))
     (λ c κs. tt)
-    (λ c. simp (c .if2 .taken, c .before .before .if1 .left, ← (c .before .chrx .ensures), ← (ap (λ (x : CommandBits). x .read) (c .before .before .before .command-of .ensures))))
-    (λ c. simp (c .if2 .left, c .before .before .if1 .left, ← (c .before .chrx .ensures), ← (ap (λ (x : CommandBits). x .read) (c .before .before .before .command-of .ensures)), ← (ap (λ (x : CommandBits). x .remote) (c .before .before .before .command-of .ensures)))))
+    (λ c. simp (c .if2 .taken, c .before .before .if1 .left, ← (c .before .chrx .ensures), ← (c .before .before .before .reads .ensures)))
+    (λ c κs. tt)
+    (λ c. simp (c .before .if2 .left, c .before .before .before .if1 .left, ← (c .remote .ensures), ← (c .before .before .chrx .ensures), ← (c .before .before .before .before .reads .ensures))))

@@ -1,13 +1,10 @@
 use borrow.Author.Needs.{needs}
-use mathlib.Core.Path.{ap}
 use Rattle.rules.specs.Delivery.{reportDelivered}
-use Rattle.channels.specs.Command.{commandOf}
-use Rattle.channels.specs.declared.CommandBits.{CommandBits}
 use Rattle.reports.proofs.report_delivered.Statement.{statement}
 use Rattle.reports.proofs.report_delivered.Tie as tie
 
 pub report-delivered-spec : {M : Type 1} → statement M
-unfolding reportDelivered commandOf
+unfolding reportDelivered
 report-delivered-spec =
     tie.close (tie.spec
     (λ c. search needs)
@@ -21,6 +18,6 @@ report-delivered-spec =
     (λ c. search needs)
     (λ c κs. tt)
     (λ c. simp (c .enum-told .given .1))
-    (λ c. simp (← (c .report-stored .ensures), ← (ap (λ (x : CommandBits). x .acknowledge) (c .before .command-of .ensures)), c .before .before .enum-told2 .given .1))
+    (λ c. simp (← (c .report-stored .ensures), ← (c .before .acknowledge-asked .ensures), c .before .before .enum-told2 .given .1))
     (λ c. simp (← (c .with-receive-error .ensures), ← (c .before .with-error .ensures), c .before .before .enum-told3 .given .1))
     (λ c. simp (← (c .with-receive-error2 .ensures), c .before .enum-told4 .given .1)))

@@ -1,0 +1,10 @@
+use mathlib.Core.Path.{refl}
+use Rattle.rules.specs.Channels.{acknowledgeAsked}
+use Rattle.channels.proofs.acknowledge_asked.Statement.{statement}
+use Rattle.channels.proofs.acknowledge_asked.Tie as tie
+
+pub acknowledge-asked-spec : {M : Type 1} → statement M
+unfolding acknowledgeAsked
+acknowledge-asked-spec =
+    tie.close (tie.spec
+    (λ c. refl))

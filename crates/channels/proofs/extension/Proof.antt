@@ -1,0 +1,10 @@
+use mathlib.Core.Path.{refl}
+use Rattle.rules.specs.Channels.{extension}
+use Rattle.channels.proofs.extension.Statement.{statement}
+use Rattle.channels.proofs.extension.Tie as tie
+
+pub extension-spec : {M : Type 1} → statement M
+unfolding extension
+extension-spec =
+    tie.close (tie.spec
+    (λ c. refl))

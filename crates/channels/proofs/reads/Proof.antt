@@ -1,0 +1,10 @@
+use mathlib.Core.Path.{refl}
+use Rattle.rules.specs.Channels.{reads}
+use Rattle.channels.proofs.reads.Statement.{statement}
+use Rattle.channels.proofs.reads.Tie as tie
+
+pub reads-spec : {M : Type 1} → statement M
+unfolding reads
+reads-spec =
+    tie.close (tie.spec
+    (λ c. refl))

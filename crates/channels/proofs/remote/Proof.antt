@@ -1,0 +1,10 @@
+use mathlib.Core.Path.{refl}
+use Rattle.rules.specs.Channels.{remote}
+use Rattle.channels.proofs.remote.Statement.{statement}
+use Rattle.channels.proofs.remote.Tie as tie
+
+pub remote-spec : {M : Type 1} → statement M
+unfolding remote
+remote-spec =
+    tie.close (tie.spec
+    (λ c. refl))
