@@ -1,7 +1,7 @@
 // Pin reset and host access by value. Each answers what the step rule says (01, Numbers refused; Session and listing).
 ghost use mathlib.Core.Path.{_≡_};
-ghost use Rattle.rules.specs.Run as run;
-ghost use Rattle.rules.specs.Answers as answers;
+ghost use Rattle.rules.specs.Definitions.Run as run;
+ghost use Rattle.rules.specs.Definitions.Answers as answers;
 ghost use Rattle.rules.specs.declared.Event.the-variants as event;
 use rules::Controller;
 use rules::Outcome;

@@ -1,6 +1,6 @@
 // What a call answers, as document 01's numbers: the refusal's number or 0, the value or 0 (01, Numbers refused).
 ghost use mathlib.Core.Path.{_≡_};
-ghost use Rattle.rules.specs.Answers as rule;
+ghost use Rattle.rules.specs.Definitions.Answers as rule;
 use rules::Refusal;
 use rules::Reply;
 

@@ -1,7 +1,7 @@
 // An attempt to send: its judgement slot by slot, and what it spends (01, Sending).
 ghost use mathlib.Core.Path.{_≡_};
 ghost use Prim.Native.Nat.{_+_, _<_};
-ghost use Rattle.rules.specs.Attempt as rule;
+ghost use Rattle.rules.specs.Definitions.Attempt as rule;
 ghost use Rattle.rules.specs.declared.Stage.the-variants as stages;
 ghost use Rattle.attempt.specs.Following as place;
 use line::Half;

@@ -4,13 +4,13 @@ use Prim.Native.Nat.{ℕ, _+_}
 use mathlib.Core.List.{List, [], _∷_, _++_}
 use lib.Dec.{ltb}
 use lib.ListN.{length, drop}
-use Rattle.number.specs.Number.{pick}
+use Rattle.leb128.specs.Number.{pick}
 use Rattle.session.specs.declared.Event.{Event}
 use Rattle.session.specs.declared.Event.the-variants.{Reset, Write, Read, Slot, Mark}
 use Rattle.session.specs.declared.End.{End}
 use Rattle.session.specs.declared.End.the-variants.{Clean, Bad}
 use Rattle.session.specs.Reading.{longest, faultNumber, Events, Reading, NoHeader, Counted, session}
-use Rattle.rules.specs.Run.{fresh, step, accept}
+use Rattle.rules.specs.Definitions.Run.{fresh, step, accept}
 use Rattle.rules.specs.declared.Event.the-variants as controls
 use Rattle.rules.specs.declared.Controller.{Controller}
 use Rattle.rules.specs.declared.Answer.{Answer}

@@ -3,7 +3,7 @@ ghost use mathlib.Core.Path.{_≡_};
 ghost use mathlib.Core.List.{List, _++_};
 ghost use Prim.Native.Nat.{ℕ, _≤_};
 ghost use lib.ListN.{length, take};
-ghost use Rattle.number.specs.Number.{Bytes, written};
+ghost use Rattle.leb128.specs.Number.{Bytes, written};
 ghost use Rattle.session.specs.Reading as reading;
 ghost use Rattle.session.specs.Writing.{eventsBytes, AllFit};
 ghost use Rattle.session.specs.declared.Event.{Event as SessionEvent};

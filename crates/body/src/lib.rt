@@ -4,7 +4,7 @@ ghost use Prim.Native.Nat.{_+_, _*_, _/_, _%_};
 ghost use lib.ListN.{getD};
 ghost use Rattle.line.specs.Check as check;
 ghost use Rattle.line.specs.Frame as frame;
-ghost use Rattle.rules.specs.Hearing as rule;
+ghost use Rattle.rules.specs.Definitions.Hearing as rule;
 use registers::Code;
 use rules::Hearing;
 use rules::Reception;

@@ -2,7 +2,7 @@
 // A channel number is taken modulo 14. `low` is byte 1 of a frame or of a channel: identifier or tag bits 3 to 0, EXT, RAK, R/W, RTR.
 ghost use mathlib.Core.Path.{_≡_};
 ghost use Prim.Native.Nat.{_≤_};
-ghost use Rattle.rules.specs.Channels as rule;
+ghost use Rattle.rules.specs.Definitions.Channels as rule;
 use rules::Buffer;
 use rules::Channel;
 
@@ -58,8 +58,8 @@ pub fn channel_at(m: &[u8; 256], c: u8) -> Channel
         low: m[at + 1],
         pointer: m[at + 2],
         status: m[at + 3],
-        over: m[at + 6],
-        under: m[at + 7],
+        mask_high: m[at + 6],
+        mask_low: m[at + 7],
     }
 }
 

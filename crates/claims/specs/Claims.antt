@@ -1,66 +1,54 @@
--- Every promise, on one page: first in words (quoted from the demands or from 01), then exactly. The proofs are below and cite the work elsewhere.
+-- Every promise, on one page: first in words (quoted from the demands or from 01), then exactly. The proofs stand in proofs/.
 -- What the calls do is said in their own contracts, by the definitions that are used here:
 --   controller: each call's answer is `step` of its event, for every controller, in range or not (crates/controller/src/lib.rt); the same over a lent map (crates/host, crates/slots)
 --   codec: `encoded`, `encodedRoom` (crates/encoder/src/lib.rt); `decoded`, `decodedRoom` of `reading` (crates/decoder/src/lib.rt)
 --   session: `session`, `eventAt` (crates/session/src/lib.rt); numbers: `number` (crates/number/src/lib.rt)
 --   listing: `played`, `playedRoom` of `listingOf`, and `first_lines` (crates/player/src/lib.rt); for C: crates/frapmast/src/lib.rt
 use Prim.Native.Nat.{ℕ, _+_, _*_, _%_, _≤_, _<_}
-use mathlib.Core.Bool.{Bool, true, false}
+use mathlib.Core.Bool.{true, false}
 use mathlib.Core.List.{List, [], _∷_, _++_}
 use mathlib.Core.Logic.{_↔_}
-use mathlib.Core.Path.{_≡_, refl, ap, _∙_, subst}
-use native.Mathlib.Omega.{arith}
-use lib.Bits.{and-zero-r}
+use mathlib.Core.Path.{_≡_}
 use lib.Dec.{ltb}
 use lib.ListN.{length, getD, take}
 use Rattle.line.specs.Bits.{pick, bits, Below}
 use Rattle.line.specs.LineCode.{lineCode, pattern}
-use Rattle.line.specs.Frame.{Frame, Fits, slots, size}
+use Rattle.line.specs.Frame.{Frame, Fits, slots}
 use Rattle.line.specs.Layout.{levelOf}
-use Rattle.line.specs.Laws.{slots-length}
-use Rattle.line.specs.Claims as line
 use Rattle.codec.specs.Encode.{encodedRoom}
-use Rattle.codec.specs.Answer.{laid}
-use Rattle.codec.specs.Decode.{Reading, frame, refused, reading, headOf, decoded, decodedRoom}
-use Rattle.codec.specs.Claims as codec
+use Rattle.codec.specs.Decode.{Reading, frame, refused, reading, decoded, decodedRoom}
 use Rattle.codec.specs.declared.Refusal as codec-refusal
-use Rattle.codec.specs.declared.Refusal.the-variants.{Room}
 use Rattle.codec.specs.declared.Encoded.the-variants as encoding
 use Rattle.codec.specs.declared.Decoded.the-variants as decoding
-use Rattle.rules.specs.Registers.{readOnly, writeOnly, reserved, fixedBits}
-use Rattle.rules.specs.Channels.{base, matches, takes, winnerFor}
-use Rattle.rules.specs.Masks.{bitAt}
-use Rattle.rules.specs.Mailbox.{mailboxAt, statusByte, markedCher}
-use Rattle.rules.specs.Reception.{begun}
-use Rattle.rules.specs.Valid.{low}
-use Rattle.rules.specs.State.{inRange, isAsleep}
-use Rattle.rules.specs.Run.{fresh, step, next, after}
-use Rattle.rules.specs.Tally.{none}
-use Rattle.rules.specs.Promise.{Kept}
-use Rattle.rules.specs.Delivered.{noLog, received, Delivered}
-use Rattle.rules.specs.Deliver.{delivery}
-use Rattle.rules.specs.Own.{OwnFrames}
-use Rattle.rules.specs.OwnProof.{own-frames}
-use Rattle.rules.specs.Interrupts as interrupt
-use Rattle.rules.specs.InterruptsRaised.{interrupts as raised}
-use Rattle.rules.specs.Claims as rules
+use Rattle.rules.specs.Definitions.Registers.{readOnly, writeOnly, reserved, fixedBits}
+use Rattle.rules.specs.Definitions.Channels.{base, matches, takes, winnerFor}
+use Rattle.rules.specs.Statements.Bits.{bitAt}
+use Rattle.rules.specs.Definitions.Mailbox.{mailboxAt, statusByte, markedCher}
+use Rattle.rules.specs.Definitions.Reception.{begun}
+use Rattle.rules.specs.Definitions.Hearing.{fits}
+use Rattle.rules.specs.Statements.Valid.{low}
+use Rattle.rules.specs.Definitions.State.{inRange, isAsleep}
+use Rattle.rules.specs.Definitions.Run.{fresh, step, next, after}
+use Rattle.rules.specs.Statements.Tally.{none}
+use Rattle.rules.specs.Statements.Sending.{Kept}
+use Rattle.rules.specs.Statements.Receiving.{noLog, received, Delivered}
+use Rattle.rules.specs.Statements.OwnFrames.{OwnFrames}
+use Rattle.rules.specs.Statements.Interrupts as interrupt
+use Rattle.rules.specs.Statements.Claims as rules
 use Rattle.rules.specs.declared.Winner.{Winner}
 use Rattle.rules.specs.declared.Controller.{Controller}
 use Rattle.rules.specs.declared.Event.{Event}
 use Rattle.rules.specs.declared.Event.the-variants.{Reset, Write, Read, Slot}
-use Rattle.number.specs.Number.{Bytes, number, written, groups, groupsOf, before, faultOf, refusalNumber, Number}
-use Rattle.number.specs.Format as numbers
+use Rattle.leb128.specs.Number.{Bytes, number, written, before, faultOf, Number}
 use Rattle.session.specs.Reading.{longest, Events, Counted, session}
 use Rattle.session.specs.Writing.{sessionBytes, AllFit}
-use Rattle.session.specs.Stands.{Settled}
+use Rattle.session.specs.Claims.{Settled}
 use Rattle.session.specs.Claims as sessions
 use Rattle.session.specs.declared.Fault.{Fault}
 use Rattle.session.specs.declared.End.the-variants.{Bad}
 use Rattle.session.specs.declared.Event as session-event
-use Rattle.claims.specs.Numbers as refusal
-use Rattle.claims.specs.Places as places
 use Rattle.claims.specs.Agree as agree
-use Rattle.claims.specs.Decoded.{Decoded, every-run}
+use Rattle.claims.specs.Decoded.{Decoded}
 
 -- ---- demand 1
 
@@ -95,13 +83,13 @@ pub record Sessions : Type 0 where
   -- and the fault, unless the input is cut there, whatever follows the input
   pub settled : (most : ℕ) (s t : List ℕ) → Bytes s → Settled (session most s) → session most (s ++ t) ≡ session most s
   -- a good session is the written form of its events, and every such form is a good session
-  pub told : (most : ℕ) (s : List ℕ) → Bytes s → (es : List session-event.Event) → sessions.Good most s es → (length es ≤ most) × AllFit es × (s ≡ sessionBytes es)
-  pub enough : (most : ℕ) (es : List session-event.Event) → length es ≤ most → length es ≤ 65535 → AllFit es → sessions.Good most (sessionBytes es) es
+  pub sound : (most : ℕ) (s : List ℕ) → Bytes s → (es : List session-event.Event) → sessions.Good most s es → (length es ≤ most) × AllFit es × (s ≡ sessionBytes es)
+  pub complete : (most : ℕ) (es : List session-event.Event) → length es ≤ most → length es ≤ 65535 → AllFit es → sessions.Good most (sessionBytes es) es
   -- "a good session has at most 28,675" bytes
   pub short : (s : List ℕ) → Bytes s → (es : List session-event.Event) → sessions.Good longest s es → length s ≤ 28675
   -- a number's "shortest form only", and "the rest of the caller's bytes is handed back"
-  pub number-told : (s : List ℕ) → Bytes s → (n : ℕ) (t : List ℕ) → number s ≡ Number n t → (n ≤ 65535) × (s ≡ written n ++ t)
-  pub number-enough : (n : ℕ) (t : List ℕ) → n ≤ 65535 → number (written n ++ t) ≡ Number n t
+  pub number-sound : (s : List ℕ) → Bytes s → (n : ℕ) (t : List ℕ) → number s ≡ Number n t → (n ≤ 65535) × (s ≡ written n ++ t)
+  pub number-complete : (n : ℕ) (t : List ℕ) → n ≤ 65535 → number (written n ++ t) ≡ Number n t
 
 -- ---- demand 2
 
@@ -118,8 +106,8 @@ pub record Frames : Type 0 where
 
 pub record Matching : Type 0 where
   -- "A frame matches when every tag bit under a mask one equals the identifier's": then, and only then
-  pub told : (tag mask identifier : ℕ) → matches tag mask identifier ≡ true → (k : ℕ) → bitAt mask k ≡ 1 → bitAt tag k ≡ bitAt identifier k
-  pub enough : (tag mask identifier : ℕ) → ((k : ℕ) → bitAt mask k ≡ 1 → bitAt tag k ≡ bitAt identifier k) → matches tag mask identifier ≡ true
+  pub sound : (tag mask identifier : ℕ) → matches tag mask identifier ≡ true → (k : ℕ) → bitAt mask k ≡ 1 → bitAt tag k ≡ bitAt identifier k
+  pub complete : (tag mask identifier : ℕ) → ((k : ℕ) → bitAt mask k ≡ 1 → bitAt tag k ≡ bitAt identifier k) → matches tag mask identifier ≡ true
   -- "the lowest-numbered listening channel whose masked identifier matches": who takes a frame takes it, and no lower channel does
   pub lowest : (m : List ℕ) (high low : ℕ) → winnerFor m high low .matched ≡ true
       → (takes m (winnerFor m high low .channel) high low ≡ true) × ((k : ℕ) → k < winnerFor m high low .channel → takes m k high low ≡ false)
@@ -145,8 +133,8 @@ pub record Receiving : Type 0 where
   -- a fault is heard only where they can decode to no valid frame (specs/Decoded.antt)
   pub delivered : (es : List Event) → Decoded fresh noLog es
   -- the receiver begun by a dominant slot takes a slot list exactly if it decodes to a valid frame (specs/Agree.antt)
-  pub told : (m s : List ℕ) → Below 2 s → agree.receives m begun s ≡ true → agree.Accepted m (0 ∷ s)
-  pub enough : (m s : List ℕ) → Below 2 s → agree.Accepted m (0 ∷ s) → agree.receives m begun s ≡ true
+  pub sound : (m s : List ℕ) → Below 2 s → agree.receives m begun s ≡ true → agree.Accepted m (0 ∷ s)
+  pub complete : (m s : List ℕ) → Below 2 s → agree.Accepted m (0 ∷ s) → agree.receives m begun s ≡ true
   -- "Matched and fitting, RAK 1, DRAK 0, check right: the model drives the acknowledge", and no other dominant level where it isn't the sender
   -- (Acknowledges in crates/rules/specs/Delivered.antt); and a closed run in which it is driven and the frame stored
   pub acknowledged : (es : List Event) → Delivered fresh noLog es
@@ -189,99 +177,5 @@ pub record Marked : Type 0 where
   pub p11 : faultOf (number (0x83 ∷ 0x00 ∷ [])) ≡ 31
   -- "P12 RAK 1, R/W 0, RTR 0, three bytes: 0x83."
   pub p12 : (low : ℕ) → low % 8 ≡ 0b100 → statusByte low 3 ≡ 0x83
-
--- ---- the proofs
-
-refused-room : (room : List ℕ) (x : Reading) (r : codec-refusal.Refusal) → decoded (length room) x ≡ decoding.Refused r → decodedRoom room x ≡ room
-unfolding decoded decodedRoom
-refused-room room (frame f) r e = go (ltb (length room) (length (f .bytes))) e
-  where
-    go : (b : Bool) → pick b (decoding.Refused Room) (decoding.Accepted (headOf f)) ≡ decoding.Refused r → pick b room (laid (f .bytes) room) ≡ room
-    go true d = refl
-    go false d = absurd (let z : _≡_ {A = ℕ} 0 1 = cc in omega arith)
-refused-room room (refused x) r e = refl
-
-chain : (c : Controller) (es : List Event) (e : Event) → after c (es ++ (e ∷ [])) ≡ step (after c es) e .next
-unfolding after next
-chain c [] e = refl
-chain c (x ∷ es) e = chain (next c x) es e
-
-pub refusals : Refusals
-refusals =
-    record {
-      same = rules.refusals .same;
-      zero-elsewhere = rules.refusals .zero-elsewhere;
-      in-range = rules.refusals .in-range;
-      never-six = rules.refusals .never-six;
-      of-reset = refusal.reset-number;
-      of-write = refusal.write-number;
-      of-read = refusal.read-number;
-      of-slot = refusal.slot-number;
-      encode-room = λ room f r. unfold encodedRoom in refl;
-      decode-room = refused-room;
-    }
-
-pub session-claims : Sessions
-session-claims =
-    record {
-      answered = sessions.total;
-      stand = sessions.prefix;
-      settled = sessions.stands;
-      told = sessions.determined;
-      enough = sessions.complete;
-      short = λ s b es e. subst (λ (n : ℕ). length s ≤ n) sessions.longest-size (sessions.size longest s b es e);
-      number-told = numbers.accepted;
-      number-enough = numbers.reads-back;
-    }
-
-pub frames : Frames
-unfolding size
-frames =
-    record {
-      exact = λ longest. codec.codec longest .exact;
-      decoded = λ longest. codec.codec longest .decoded;
-      encoded = λ longest. codec.codec longest .encoded;
-      one = λ longest. codec.codec longest .one;
-      long = slots-length;
-      level = line.layout .level;
-      table = line.layout .table;
-    }
-
-pub matching : Matching
-matching = record { told = rules.matching .told; enough = rules.matching .enough; lowest = places.winner-lowest; nobody = places.winner-none }
-
-pub storing : Storing
-storing = record { whole = places.laid-at; nowhere-else = places.elsewhere; too-long = places.too-long; unmatched = places.no-winner; map-long = places.map-long }
-
-pub receiving : Receiving
-receiving =
-    record {
-      delivered = every-run;
-      told = agree.agree-told;
-      enough = agree.agree-enough;
-      acknowledged = delivery;
-      closed = rules.receiving;
-      own = own-frames;
-      interrupts = raised;
-    }
-
-pub sending : Sending
-sending = record { chained = chain; kept = rules.sending .kept; runs = rules.runs }
-
-pub marked : Marked
-unfolding lineCode bits size base matches mailboxAt statusByte number written groups groupsOf before faultOf refusalNumber
-marked =
-    record {
-      p1 = refl;
-      p2 = refl;
-      p3 = refl;
-      p4 = λ f e. slots-length f ∙ ap size e;
-      p5 = λ f e. slots-length f ∙ ap size e;
-      p6 = refl;
-      p7 = (refl, refl);
-      p8 = λ tag identifier. simp and-zero-r;
-      p9 = (refl, refl, refl);
-      p10 = (refl, refl);
-      p11 = refl;
-      p12 = λ low e. rw e;
-    }
+  -- "M_L 3 takes 2 bytes and not 3" (also run)
+  pub m-l-3 : (w : Winner) → w .length ≡ 3 → (fits w 2 ≡ true) × (fits w 3 ≡ false)

@@ -4,28 +4,22 @@
 use Prim.Native.Nat.{ℕ, _≤_}
 use mathlib.Core.Bool.{true}
 use mathlib.Core.List.{List, [], _∷_, _++_}
-use mathlib.Core.Path.{_≡_, sym, _∙_, ap, subst}
-use native.Mathlib.Omega.{arith}
+use mathlib.Core.Path.{_≡_}
 use lib.ListN.{getD}
 use Rattle.line.specs.Frame.{Frame, Fits, slots}
 use Rattle.codec.specs.declared.Refusal.{Refusal}
 use Rattle.codec.specs.Decode.{frame, refused, reading}
-use Rattle.codec.specs.Claims.{codec}
-use Rattle.rules.specs.Valid.{Valid}
-use Rattle.rules.specs.State.{isActive}
-use Rattle.rules.specs.Slots.{sampleOf}
-use Rattle.rules.specs.Run.{fresh, next}
-use Rattle.rules.specs.Promise.{accepted}
-use Rattle.rules.specs.Delivered as rule
-use Rattle.rules.specs.Delivered.{Log, noLog, logNext, received, taker, role, hears, Delivers, DeliversIn, Delivered}
-use Rattle.rules.specs.Deliver.{delivery}
+use Rattle.rules.specs.Statements.Valid.{Valid}
+use Rattle.rules.specs.Definitions.State.{isActive}
+use Rattle.rules.specs.Definitions.Slots.{sampleOf}
+use Rattle.rules.specs.Definitions.Run.{next}
+use Rattle.rules.specs.Statements.Sending.{accepted}
+use Rattle.rules.specs.Statements.Receiving.{Log, logNext, received, taker, role, hears}
 use Rattle.rules.specs.declared.Hearing.the-variants.{Fault, Good}
 use Rattle.rules.specs.declared.Role.the-variants.{Receiver}
 use Rattle.rules.specs.declared.Controller.{Controller}
 use Rattle.rules.specs.declared.Event.{Event}
 use Rattle.rules.specs.declared.Event.the-variants.{Reset, Write, Read, Slot}
-
--- ---- the claim
 
 abbrev pub heardSoFar : Controller → Log → ℕ → List ℕ
 heardSoFar c l levels = l .samples ++ (sampleOf (c .memory) levels ∷ [])
@@ -63,54 +57,3 @@ DecodesIn c l (Slot levels) = accepted c (Slot levels) ≡ true → isActive (c 
 abbrev pub Decoded : Controller → Log → List Event → Type 0
 Decoded c l [] = Unit {0}
 Decoded c l (e ∷ es) = DecodesIn c l e × Decoded (next c e) (logNext c l e) es
-
--- ---- its proof
-
-no-frame : {f : Frame} {r : Refusal} → refused r ≡ frame f → ⊥
-no-frame e = let z : _≡_ {A = ℕ} 0 1 = cc in omega arith
-
-module _ (c : Controller) (l : Log) (levels : ℕ) (d : Delivers c l levels) where
-  told : (s : List ℕ) (f : Frame) → reading 30 s ≡ frame f → Fits 30 f × (s ≡ slots f)
-  told s f e = codec 30 .exact s f .0 e
-
-  back : (s : List ℕ) (f : Frame) → Fits 30 f → s ≡ slots f → reading 30 s ≡ frame f
-  back s f g e = codec 30 .exact s f .1 (g, e)
-
-  slot-good : hears c levels ≡ Good → Decodable c l levels
-  slot-good h = let t = d .good h in record { which = t .frame; decodes = back _ (t .frame) (t .fits) (t .whole) }
-
-  slot-taken : (f : Frame) → reading 30 (heardSoFar c l levels) ≡ frame f → Taken c l levels f
-  slot-taken f e =
-      let k = told (heardSoFar c l levels) f e in
-      let h : hears c levels ≡ Good = d .complete f (k .0) (k .1) in
-      let t : rule.Taken c l levels = d .good h in
-      let n : t .frame ≡ f = codec 30 .one (t .frame) f (t .fits) (k .0) (sym (t .whole) ∙ k .1) in
-      record {
-        valid = subst (λ (x : Frame). Valid (taker l x) x) n (t .valid);
-        whole = k .1;
-        one = λ g i q. codec 30 .one g f i (k .0) (sym q ∙ k .1);
-        ends = h;
-        memory = t .memory ∙ ap (λ (x : Frame). received (c .memory) (taker l x) x) n;
-      }
-
-  slot-decodes : Decodes c l levels
-  slot-decodes =
-      record {
-        taken = slot-taken;
-        good = slot-good;
-        early = λ r e. d .early (λ h. no-frame (sym e ∙ slot-good h .decodes));
-        fault = λ code h rest f e v. let k = told _ f e in d .faultless code h f (k .0) v rest (k .1);
-      }
-
-decodes-in : (c : Controller) (l : Log) (e : Event) → DeliversIn c l e → DecodesIn c l e
-decodes-in c l Reset d = tt
-decodes-in c l (Write address value) d = tt
-decodes-in c l (Read address) d = tt
-decodes-in c l (Slot levels) d = λ y a q. slot-decodes c l levels (d y a .1 q)
-
-from : (c : Controller) (l : Log) (es : List Event) → Delivered c l es → Decoded c l es
-from c l [] d = tt
-from c l (e ∷ es) d = (decodes-in c l e (d .1), from (next c e) (logNext c l e) es (d .2))
-
-pub every-run : (es : List Event) → Decoded fresh noLog es
-every-run es = from fresh noLog es (delivery es)

@@ -2,10 +2,9 @@
 use Prim.Native.Nat.{ℕ}
 use mathlib.Core.List.{List}
 use mathlib.Core.Logic.{_↔_}
-use mathlib.Core.Path.{_≡_, sym, _∙_, ap}
+use mathlib.Core.Path.{_≡_}
 use Rattle.line.specs.Frame.{Frame, Fits, slots}
 use Rattle.codec.specs.Decode.{frame, reading}
-use Rattle.codec.specs.RoundTrip.{slots-read, read-is}
 
 pub record Codec (longest : ℕ) : Type 0 where
   -- a slot list reads as a frame exactly when it is that frame's slot list
@@ -16,15 +15,3 @@ pub record Codec (longest : ℕ) : Type 0 where
   pub encoded : (s : List ℕ) (f : Frame) → reading longest s ≡ frame f → slots f ≡ s
   -- no slot list is that of two frames
   pub one : (f g : Frame) → Fits longest f → Fits longest g → slots f ≡ slots g → f ≡ g
-
-same-frame : {f g : Frame} → frame f ≡ frame g → f ≡ g
-same-frame e = cc
-
-pub codec : (longest : ℕ) → Codec longest
-codec longest =
-    record {
-      exact = λ s f. (read-is longest s f, λ p. ap (reading longest) (p .1) ∙ slots-read longest f (p .0));
-      decoded = slots-read longest;
-      encoded = λ s f e. sym (read-is longest s f e .1);
-      one = λ f g p q e. same-frame (sym (slots-read longest f p) ∙ ap (reading longest) e ∙ slots-read longest g q);
-    }

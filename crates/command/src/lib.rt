@@ -1,10 +1,10 @@
 // What an accepted write and a reset do over the lent memory map: commands, flags, abort (01, Memory map).
 ghost use mathlib.Core.Path.{_≡_};
-ghost use Rattle.rules.specs.Host as rule;
-ghost use Rattle.rules.specs.Mailbox as mailbox;
-ghost use Rattle.rules.specs.Service as service;
-ghost use Rattle.rules.specs.State as core;
-ghost use Rattle.rules.specs.Answers as answers;
+ghost use Rattle.rules.specs.Definitions.Host as rule;
+ghost use Rattle.rules.specs.Definitions.Mailbox as mailbox;
+ghost use Rattle.rules.specs.Definitions.Service as service;
+ghost use Rattle.rules.specs.Definitions.State as core;
+ghost use Rattle.rules.specs.Definitions.Answers as answers;
 use registers::Map;
 use rules::Activity;
 use rules::Core;

@@ -1,8 +1,8 @@
 // The controller by value, its six calls in one place: fresh and slot stand here; pin reset, host write and host read come from access, the interrupt line from status.
 // Each answers what the step rule says (01, Numbers refused; Session and listing).
 ghost use mathlib.Core.Path.{_≡_};
-ghost use Rattle.rules.specs.Run as run;
-ghost use Rattle.rules.specs.Answers as answers;
+ghost use Rattle.rules.specs.Definitions.Run as run;
+ghost use Rattle.rules.specs.Definitions.Answers as answers;
 ghost use Rattle.rules.specs.declared.Event.the-variants as event;
 pub use access::host_read;
 pub use access::host_write;

@@ -13,14 +13,14 @@ use borrow.Author.Tests.{eqb-true, leb-true, lt-ltb, le-ltb}
 use Rattle.line.specs.Bits.{pick, number, written, Below, none, one}
 use Rattle.line.specs.Check.{checkBit, remainder, check, allOnes}
 use Rattle.line.specs.Frame.{Frame, start, endOfFrame}
-use Rattle.line.specs.Laws.{next, number-below, written-append, remainder-append}
+use Rattle.line.proofs.Laws.{next, number-below, written-append, remainder-append}
 use Rattle.codec.specs.declared.Refusal.{Refusal}
 use Rattle.codec.specs.declared.Refusal.the-variants.{Level, Start, Pair, Length, Check, Acknowledge, EndOfFrame, CutShort, LeftOver, Room}
 use Rattle.codec.specs.declared.Head.{Head}
 use Rattle.codec.specs.declared.Decoded.the-variants.{Accepted, Refused}
-use Rattle.codec.specs.Laws.{laid-sets}
+use Rattle.codec.proofs.Laws.{laid-sets}
 use Rattle.codec.specs.Decode.{Read, read, fault, Reading, frame, refused, after, levels, expected, most, nibbles, whole, plainRun, pairAt, right, secondSlot, acknowledged, bytesOf, frameOf, headOf, ended, closing, judged, reading, decoded, decodedRoom}
-use Rattle.codec.specs.RoundTrip.{both, bytes-long}
+use Rattle.codec.proofs.RoundTrip.{both, bytes-long}
 use Rattle.decoder.specs.View.{view, seenBits, bytesAt, Follows, Sees, Gives}
 use Rattle.decoder.specs.declared.Found.the-variants.{At, Fault}
 use Rattle.decoder.specs.declared.Seen.the-variants.{Judged, Faulty}

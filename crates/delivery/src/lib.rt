@@ -1,6 +1,6 @@
 // What another module's frame does to the channel that takes it (01, Receiving).
 ghost use mathlib.Core.Path.{_≡_};
-ghost use Rattle.rules.specs.Delivery as rule;
+ghost use Rattle.rules.specs.Definitions.Delivery as rule;
 use rules::Delivery;
 use rules::Hearing;
 use rules::Reception;

@@ -1,2 +1,1 @@
 pub mod Driver
-pub mod Levels

@@ -1,7 +1,7 @@
 // The line driver: the level of a slot of the fixed frame, found by its place (01, Frames on the line; Sending).
 ghost use mathlib.Core.Path.{_≡_};
 ghost use Prim.Native.Nat.{_<_};
-ghost use Rattle.rules.specs.Attempt as rule;
+ghost use Rattle.rules.specs.Definitions.Attempt as rule;
 ghost use Rattle.driver.specs.Driver as driver;
 use rules::Coded;
 

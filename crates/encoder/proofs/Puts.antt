@@ -12,7 +12,7 @@ use Rattle.line.specs.Bits.{bits}
 use Rattle.line.specs.LineCode.{lineCode, pattern}
 use Rattle.line.specs.Check.{check, remainder, allOnes}
 use Rattle.line.specs.Frame.{byteBits, covered, carried, start, endOfData, endOfFrame, acknowledgeSlots, slots}
-use Rattle.line.specs.Laws.{next, header-bits, bits-length, bits-split, bits-mod, code-append, code-length, pattern-slots, remainder-append, covered-length}
+use Rattle.line.proofs.Laws.{next, header-bits, bits-length, bits-split, bits-mod, code-append, code-length, pattern-slots, remainder-append, covered-length}
 use Rattle.codec.specs.Encode.{given}
 
 pub sets-append : (l : List ℕ) (i : ℕ) (vs ws : List ℕ) → sets l i (vs ++ ws) ≡ sets (sets l i vs) (i + length vs) ws

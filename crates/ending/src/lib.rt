@@ -1,6 +1,6 @@
 // How a sending service ends, and the marks that this sets in its channel (01, Sending; 000, Retries, Rearbitrate and Abort).
 ghost use mathlib.Core.Path.{_≡_};
-ghost use Rattle.rules.specs.Service as rule;
+ghost use Rattle.rules.specs.Definitions.Service as rule;
 use rules::Coded;
 use rules::Effort;
 use rules::Ending;

@@ -1,6 +1,6 @@
 // The line between frames: when it is free and takes a start (01, Sending: Free line).
 ghost use mathlib.Core.Path.{_≡_};
-ghost use Rattle.rules.specs.Reception as rule;
+ghost use Rattle.rules.specs.Definitions.Reception as rule;
 use rules::Line;
 
 // After reset, fault or activation: twelve recessive slots are due.

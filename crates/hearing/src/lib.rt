@@ -2,7 +2,7 @@
 ghost use mathlib.Core.Path.{_≡_};
 ghost use lib.ListN.{getD};
 ghost use Rattle.line.specs.Frame as frame;
-ghost use Rattle.rules.specs.Hearing as rule;
+ghost use Rattle.rules.specs.Definitions.Hearing as rule;
 use registers::Code;
 use rules::Hearing;
 use rules::Line;
@@ -48,10 +48,10 @@ fn acknowledges(r: Reception) -> bool
 {
     let w = r.winner;
     let b = r.bytes;
-    let silent = w.silent;
+    let no_acknowledge = w.no_acknowledge;
     let asked = channels::acknowledge_asked(b[1]);
     if w.matched {
-        if silent {
+        if no_acknowledge {
             return false;
         }
         if fits(w, reception::data_count(r.nibbles)) {

@@ -2,9 +2,9 @@
 ghost use mathlib.Core.Path.{_≡_};
 ghost use lib.Dec.{eqb};
 ghost use Rattle.line.specs.Bits.{pick};
-ghost use Rattle.rules.specs.Host as rule;
-ghost use Rattle.rules.specs.Run as run;
-ghost use Rattle.rules.specs.Answers as answers;
+ghost use Rattle.rules.specs.Definitions.Host as rule;
+ghost use Rattle.rules.specs.Definitions.Run as run;
+ghost use Rattle.rules.specs.Definitions.Answers as answers;
 use registers::Map;
 use rules::Core;
 use rules::CoreOutcome;

@@ -3,12 +3,12 @@ use Prim.Native.Nat.{ℕ}
 use mathlib.Core.Bool.{Bool, true, false, false≢true}
 use mathlib.Core.List.{List}
 use mathlib.Core.Path.{_≡_, refl, sym, _∙_, ap}
-use Rattle.line.specs.Laws.{pick-same}
-use Rattle.rules.specs.Registers.{both}
-use Rattle.rules.specs.Delivery.{deliveryOf, deliveryTo, memoryDelivered, reportHeard, reportDelivered}
-use Rattle.rules.specs.Attempt.{advance, drivesFrame, judge}
-use Rattle.rules.specs.Service.{endingOf, settled, memoryEnded, reportJudged, reportEnded, hearOwn, roleOf}
-use Rattle.rules.specs.Slots.{heard, heardAs, delivers}
+use Rattle.line.proofs.Laws.{pick-same}
+use Rattle.rules.specs.Definitions.Registers.{both}
+use Rattle.rules.specs.Definitions.Delivery.{deliveryOf, deliveryTo, memoryDelivered, reportHeard, reportDelivered}
+use Rattle.rules.specs.Definitions.Attempt.{advance, drivesFrame, judge}
+use Rattle.rules.specs.Definitions.Service.{endingOf, settled, memoryEnded, reportJudged, reportEnded, hearOwn, roleOf}
+use Rattle.rules.specs.Definitions.Slots.{heard, heardAs, delivers}
 use Rattle.rules.specs.declared.Hearing.{Hearing}
 use Rattle.rules.specs.declared.Hearing.the-variants.{Silent, Follows, Fault, Good}
 use Rattle.rules.specs.declared.Delivery.the-variants.{Nothing}

@@ -3,11 +3,11 @@
 use Prim.Native.Nat.{ℕ}
 use mathlib.Core.Bool.{Bool, true, false}
 use mathlib.Core.List.{List}
-use Rattle.rules.specs.Registers.{both}
-use Rattle.rules.specs.Delivery.{reportHeard, reportDelivered}
-use Rattle.rules.specs.Attempt.{judge}
-use Rattle.rules.specs.Service.{endingOf, reportJudged, reportEnded}
-use Rattle.rules.specs.Slots.{heard, delivers, memoryJudged, coreJudged}
+use Rattle.rules.specs.Definitions.Registers.{both}
+use Rattle.rules.specs.Definitions.Delivery.{reportHeard, reportDelivered}
+use Rattle.rules.specs.Definitions.Attempt.{judge}
+use Rattle.rules.specs.Definitions.Service.{endingOf, reportJudged, reportEnded}
+use Rattle.rules.specs.Definitions.Slots.{heard, delivers, memoryJudged, coreJudged}
 use Rattle.rules.specs.declared.Report.{Report}
 use Rattle.rules.specs.declared.Service.{Service}
 use Rattle.rules.specs.declared.Verdict.{Verdict}

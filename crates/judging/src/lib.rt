@@ -1,12 +1,12 @@
 // What a sample does: judged with its effects on memory map, registers, line, frame and service (01, Receiving and Sending).
 ghost use mathlib.Core.Path.{_≡_};
 ghost use mathlib.Core.Bool.{false};
-ghost use Rattle.rules.specs.Slots as rule;
-ghost use Rattle.rules.specs.Attempt as sending;
-ghost use Rattle.rules.specs.Reception as reception_rule;
-ghost use Rattle.rules.specs.Hearing as hearing_rule;
-ghost use Rattle.rules.specs.Service as service_rule;
-ghost use Rattle.rules.specs.Delivery as delivery_rule;
+ghost use Rattle.rules.specs.Definitions.Slots as rule;
+ghost use Rattle.rules.specs.Definitions.Attempt as sending;
+ghost use Rattle.rules.specs.Definitions.Reception as reception_rule;
+ghost use Rattle.rules.specs.Definitions.Hearing as hearing_rule;
+ghost use Rattle.rules.specs.Definitions.Service as service_rule;
+ghost use Rattle.rules.specs.Definitions.Delivery as delivery_rule;
 ghost use Rattle.rules.specs.declared.Verdict.the-variants as verdict;
 ghost use Rattle.judging.specs.Ordinary as ordinary;
 use rules::Core;

@@ -3,5 +3,4 @@ pub mod LineCode
 pub mod Check
 pub mod Frame
 pub mod Layout
-pub mod Laws
 pub mod Claims

@@ -120,8 +120,3 @@ pub fn half_of(n: u8, k: u16) -> Half
 pub fn layout_claims()
     ensures { λ _. ⌜ claims.Layout ⌝ }
 {}
-
-// Holds the marked cases P1 to P5; it does nothing.
-pub fn marked_cases()
-    ensures { λ _. ⌜ claims.Marked ⌝ }
-{}

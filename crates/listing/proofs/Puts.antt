@@ -9,7 +9,8 @@ use native.Mathlib.Omega.{arith}
 use lib.ListN.{getD, set, length, drop, drop-of-length-le}
 use lib.Seq.{sets, drop-cons}
 use Rattle.listing.specs.Listing.{digit, decimal, twoDigits, hexadecimal, holds, lineRoom, linePlace}
-use Rattle.listing.specs.Laws.{Laid, joined, decimal-one, decimal-more, decimal-long-18, hexadecimal-two, hexadecimal-more}
+use Rattle.listing.specs.Laid.{Laid}
+use Rattle.listing.proofs.Laws.{joined, decimal-one, decimal-more, decimal-long-18, hexadecimal-two, hexadecimal-more}
 
 -- ---- bytes one by one
 

@@ -6,7 +6,7 @@ use mathlib.Core.List.{List, [], _∷_, _++_}
 use lib.Dec.{ltb, leb, eqb}
 use lib.ListN.{length}
 use lib.Seq.{sets}
-use Rattle.number.specs.Number.{pick}
+use Rattle.leb128.specs.Number.{pick}
 use Rattle.session.specs.declared.Event.{Event}
 use Rattle.session.specs.declared.Event.the-variants.{Reset, Write, Read, Slot, Mark}
 use Rattle.listing.specs.declared.Edge.{Edge}

@@ -4,7 +4,7 @@ ghost use mathlib.Core.List.{_++_};
 ghost use Prim.Native.Nat.{_+_, _%_, _≤_};
 ghost use lib.ListN.{length};
 ghost use Rattle.listing.specs.Listing as rule;
-ghost use Rattle.listing.specs.Laws.{Laid, words};
+ghost use Rattle.listing.specs.Laid.{Laid, words};
 use session::Event;
 
 // The lines around those of the events: their count before them; behind them a fault's number and its place, or the end.

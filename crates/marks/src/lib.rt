@@ -1,8 +1,8 @@
 // What the controller writes to a channel: the marks in its status byte, and its tag (01, Receiving, Sending; 000, Channel Registers).
 // The map is lent and changed in place. A channel number is taken modulo 14.
 ghost use mathlib.Core.Path.{_≡_};
-ghost use Rattle.rules.specs.Channels as channel;
-ghost use Rattle.rules.specs.Mailbox as rule;
+ghost use Rattle.rules.specs.Definitions.Channels as channel;
+ghost use Rattle.rules.specs.Definitions.Mailbox as rule;
 
 // ---- the status byte
 

@@ -3,7 +3,7 @@ use Prim.Native.Nat.{ℕ, suc, _+_, _-_, _<_, _≤_}
 use mathlib.Core.Bool.{Bool, true, false}
 use mathlib.Core.Path.{_≡_}
 use native.Mathlib.Omega.{arith}
-use Rattle.rules.specs.Channels.{lowest}
+use Rattle.rules.specs.Definitions.Channels.{lowest}
 use Rattle.rules.specs.declared.Choice.the-variants.{Nothing, Lowest}
 
 module _ (passes : ℕ → Bool) (c : ℕ) where

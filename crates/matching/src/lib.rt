@@ -1,7 +1,7 @@
 // Matching: who takes a frame, who sends (01, Receiving, Sending; 000, Channel Registers).
 // `low` is byte 1 of a frame or of a channel: identifier or tag bits 3 to 0, EXT, RAK, R/W, RTR.
 ghost use mathlib.Core.Path.{_≡_};
-ghost use Rattle.rules.specs.Channels as rule;
+ghost use Rattle.rules.specs.Definitions.Channels as rule;
 use rules::Buffer;
 use rules::Channel;
 use rules::Choice;
@@ -100,7 +100,7 @@ fn takes(m: &[u8; 256], c: u8, high: u8, low: u8) -> bool
     let x = channels::channel_at(m, c);
     if listens(x, low) {
         let tag = twelve(x.high, x.low);
-        let mask = twelve(x.over, x.under);
+        let mask = twelve(x.mask_high, x.mask_low);
         if matches(tag, mask, twelve(high, low)) {
             let b = channels::buffer_of(m, c);
             return b.legal;
@@ -117,7 +117,7 @@ fn nobody() -> Winner
     Winner {
         matched: false,
         channel: 0,
-        silent: false,
+        no_acknowledge: false,
         pointer: 0,
         length: 0,
     }
@@ -132,7 +132,7 @@ fn winner_of(m: &[u8; 256], c: u8) -> Winner
     Winner {
         matched: true,
         channel: c,
-        silent: drak(x.pointer),
+        no_acknowledge: drak(x.pointer),
         pointer: b.pointer,
         length: b.length,
     }

@@ -9,9 +9,9 @@ use lib.Seq.{sets, take-at, take-all}
 use Rattle.line.specs.Bits.{bits}
 use Rattle.line.specs.Check.{check}
 use Rattle.line.specs.Frame.{Frame, byteBits, covered}
-use Rattle.line.specs.Laws.{next, header-bits}
-use Rattle.rules.specs.Channels.{base, bufferOf, twelve}
-use Rattle.rules.specs.Mailbox.{mailboxAt, statusByte, laidFrom, stored, mailboxBytes, dataIn, sentFrame, codedBytes, coded}
+use Rattle.line.proofs.Laws.{next, header-bits}
+use Rattle.rules.specs.Definitions.Channels.{base, bufferOf, twelve}
+use Rattle.rules.specs.Definitions.Mailbox.{mailboxAt, statusByte, laidFrom, stored, mailboxBytes, dataIn, sentFrame, codedBytes, coded}
 use Rattle.rules.specs.declared.Buffer.{Buffer}
 use Rattle.rules.specs.declared.Coded.{Coded}
 

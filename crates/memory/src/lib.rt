@@ -7,8 +7,8 @@ ghost use lib.ListN.{length, set, take, replicate};
 ghost use lib.Seq.{sets};
 ghost use Rattle.line.specs.Check as check;
 ghost use Rattle.line.specs.Frame as frame;
-ghost use Rattle.rules.specs.Channels as channel;
-ghost use Rattle.rules.specs.Mailbox as rule;
+ghost use Rattle.rules.specs.Definitions.Channels as channel;
+ghost use Rattle.rules.specs.Definitions.Mailbox as rule;
 use rules::Coded;
 
 // ---- the mailbox

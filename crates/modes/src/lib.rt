@@ -1,6 +1,6 @@
 // The modes of the controller (01, Memory map).
 ghost use mathlib.Core.Path.{_≡_};
-ghost use Rattle.rules.specs.State as rule;
+ghost use Rattle.rules.specs.Definitions.State as rule;
 use rules::Activity;
 use rules::Mode;
 

@@ -1,6 +1,6 @@
 // Where in the frame the line stands (01, Receiving).
 ghost use mathlib.Core.Path.{_≡_};
-ghost use Rattle.rules.specs.Reception as rule;
+ghost use Rattle.rules.specs.Definitions.Reception as rule;
 use rules::Phase;
 use rules::Place;
 use rules::Reception;

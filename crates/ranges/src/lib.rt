@@ -1,6 +1,6 @@
 // Number 6: the state's numbers within their ranges, one by one (01, Numbers refused).
 ghost use mathlib.Core.Path.{_≡_};
-ghost use Rattle.rules.specs.State as rule;
+ghost use Rattle.rules.specs.Definitions.State as rule;
 use rules::Core;
 use rules::Effort;
 use rules::Line;

@@ -2,8 +2,8 @@
 // The frame is followed too while the model itself sends.
 ghost use mathlib.Core.Path.{_≡_};
 ghost use Prim.Native.Nat.{_<_, _+_, _*_, _/_, _%_};
-ghost use Rattle.rules.specs.Channels as channels_rule;
-ghost use Rattle.rules.specs.Reception as rule;
+ghost use Rattle.rules.specs.Definitions.Channels as channels_rule;
+ghost use Rattle.rules.specs.Definitions.Reception as rule;
 use rules::Phase;
 use rules::Place;
 use rules::Reception;
@@ -26,7 +26,7 @@ fn nobody() -> Winner
     Winner {
         matched: false,
         channel: 0,
-        silent: false,
+        no_acknowledge: false,
         pointer: 0,
         length: 0,
     }

@@ -1,6 +1,6 @@
 -- The command register read at once: each bit by its own definition.
 use Prim.Native.Nat.{ℕ}
-use Rattle.rules.specs.Registers.{asksReset, asksSleep, asksIdle, asksActivation, asksRearbitration}
+use Rattle.rules.specs.Definitions.Registers.{asksReset, asksSleep, asksIdle, asksActivation, asksRearbitration}
 use Rattle.registers.specs.declared.Command.{Command}
 
 unfoldable pub asked : ℕ → Command

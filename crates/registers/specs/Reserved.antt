@@ -2,7 +2,7 @@
 use Prim.Native.Nat.{ℕ}
 use lib.Dec.{eqb}
 use Rattle.line.specs.Bits.{pick}
-use Rattle.rules.specs.Registers.{lineControl, transmitControl, command, interruptEnable, interruptReset}
+use Rattle.rules.specs.Definitions.Registers.{lineControl, transmitControl, command, interruptEnable, interruptReset}
 
 -- 0x00: bit 2; 0x01: VER, bits 3 to 1; 0x03: bits 2 and 1; 0x0A and 0x0B: bits 6 and 5
 unfoldable pub reservedBits : ℕ → ℕ

@@ -2,8 +2,8 @@
 // 0x00, 0x01, 0x02 and 0x0A stand in the memory map. 0x05 to 0x07 and 0x09 are kept as numbers and bools, 0x04 is not kept; crate status makes their bytes.
 ghost use mathlib.Core.Path.{_≡_};
 ghost use mathlib.Core.Bool.{true, false};
-ghost use Rattle.rules.specs.Registers as rule;
-ghost use Rattle.rules.specs.Mailbox as memory;
+ghost use Rattle.rules.specs.Definitions.Registers as rule;
+ghost use Rattle.rules.specs.Definitions.Mailbox as memory;
 ghost use Rattle.registers.specs.Command as map;
 ghost use Rattle.registers.specs.Reserved as reserved;
 use rules::Flags;

@@ -1,7 +1,7 @@
 // What a sample, the choice and the end of a service do to 0x05, 0x06, 0x07 and 0x09 (01, Receiving and Sending).
 ghost use mathlib.Core.Path.{_≡_};
-ghost use Rattle.rules.specs.Delivery as delivery;
-ghost use Rattle.rules.specs.Service as rule;
+ghost use Rattle.rules.specs.Definitions.Delivery as delivery;
+ghost use Rattle.rules.specs.Definitions.Service as rule;
 use registers::Code;
 use rules::Delivery;
 use rules::Ending;

@@ -1,7 +1,7 @@
 // The controller's state and answers: what the definitions in specs/ speak of; and the claims over every run.
-ghost use Rattle.rules.specs.Claims as claims;
-ghost use Rattle.rules.specs.Own as own;
-ghost use Rattle.rules.specs.Interrupts as interrupts;
+ghost use Rattle.rules.specs.Statements.Claims as claims;
+ghost use Rattle.rules.specs.Statements.OwnFrames as own;
+ghost use Rattle.rules.specs.Statements.Interrupts as interrupts;
 
 // ---- registers (01, Memory map)
 
@@ -37,8 +37,8 @@ pub struct Channel {
     pub low: u8,
     pub pointer: u8,
     pub status: u8,
-    pub over: u8,
-    pub under: u8,
+    pub mask_high: u8,
+    pub mask_low: u8,
 }
 
 // The pointer and the length M_L that a channel uses, its link resolved.
@@ -52,7 +52,7 @@ pub struct Buffer {
 pub struct Winner {
     pub matched: bool,
     pub channel: u8,
-    pub silent: bool,
+    pub no_acknowledge: bool,
     pub pointer: u8,
     pub length: u8,
 }
@@ -288,9 +288,4 @@ pub fn interrupt_claims()
 // Holds the closed runs; it does nothing.
 pub fn run_claims()
     ensures { λ _. ⌜ claims.Runs ⌝ }
-{}
-
-// Holds the marked cases P6 to P9 and P12, and the length M_L 3; it does nothing.
-pub fn marked_cases()
-    ensures { λ _. ⌜ claims.Marked ⌝ }
 {}

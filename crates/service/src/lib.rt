@@ -1,6 +1,6 @@
 // The sending service: choice and start (01, Sending; 000, Retries).
 ghost use mathlib.Core.Path.{_≡_};
-ghost use Rattle.rules.specs.Service as rule;
+ghost use Rattle.rules.specs.Definitions.Service as rule;
 use registers::Map;
 use rules::Choice;
 use rules::Effort;

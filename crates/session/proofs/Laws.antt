@@ -6,9 +6,9 @@ use native.Mathlib.Omega.{arith}
 use lib.Dec.{eqb}
 use borrow.Author.Tests.{lt-ltb}
 use lib.ListN.{length, getD, drop, take, length-drop, drop-of-length-le}
-use Rattle.number.specs.Number as numbers
-use Rattle.number.specs.Number.{pick, Read, Refusal, number, groups, restOf, valueOf, faultOf, refusalNumber}
-use Rattle.number.specs.Laws.{rest-fits, is-number, to-end}
+use Rattle.leb128.specs.Number as numbers
+use Rattle.leb128.specs.Number.{pick, Read, Refusal, number, groups, restOf, valueOf, faultOf, refusalNumber}
+use Rattle.leb128.proofs.GroupLaws.{rest-fits, is-number, to-end}
 use Rattle.session.specs.declared.Fault.the-variants.{Cut}
 use Rattle.session.specs.declared.Number.{Number}
 use Rattle.session.specs.declared.Number.the-variants.{Value, Bad}

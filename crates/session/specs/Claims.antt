@@ -1,19 +1,15 @@
--- Claims: a session is read up to its first fault, the events before the fault do not depend on what follows it, and a good session is its events.
-use Prim.Native.Nat.{ℕ, _+_, _-_, _*_, _≤_}
-use mathlib.Core.List.{List, [], _++_, append-nil}
-use mathlib.Core.Path.{_≡_, refl, ap, sym, _∙_}
-use native.Mathlib.Omega.{arith}
-use lib.ListN.{length, take}
-use Rattle.number.specs.Number.{Bytes, written, groupsOf}
+-- What is claimed of a session's reading: the types of the claims, whose values crate claims holds.
+--   Answered == what any bytes are answered        Begins == the events read first        Settled == what a cut did not end        Good == a good session
+use Prim.Native.Nat.{ℕ, _≤_}
+use mathlib.Core.List.{List, _++_}
+use mathlib.Core.Path.{_≡_}
+use lib.ListN.{length}
 use Rattle.session.specs.declared.Fault.{Fault}
+use Rattle.session.specs.declared.Fault.the-variants.{Cut}
 use Rattle.session.specs.declared.Event.{Event}
 use Rattle.session.specs.declared.End.{End}
 use Rattle.session.specs.declared.End.the-variants.{Clean, Bad}
-use Rattle.session.specs.Reading.{longest, Events, Reading, NoHeader, Counted, session}
-use Rattle.session.specs.Writing.{sessionBytes, AllFit}
-use Rattle.session.specs.Walk.{none-due}
-use Rattle.session.specs.Stands.{Settled, session-stands}
-use Rattle.session.specs.Whole.{EndIs, SessionIs, session-is, whole, prepend, begins, stays, all, bound, at-end}
+use Rattle.session.specs.Reading.{Reading, NoHeader, Counted, session}
 
 -- Any bytes are answered. A fault's place lies in the input or at its end. No more events are read than are due, and all of them if nothing is left.
 unfoldable pub Ended : List ℕ → ℕ → ℕ → End → Type 0
@@ -24,58 +20,24 @@ unfoldable pub Answered : ℕ → List ℕ → Reading → Type 0
 Answered most s (NoHeader f p) = p ≤ length s
 Answered most s (Counted c r) = (c ≤ most) × Ended s c (length (r .events)) (r .end)
 
-ended-is : (s : List ℕ) (due m n : ℕ) (e : End) → EndIs due s m n e → Ended s due n e
-unfolding EndIs Ended
-ended-is s due m n Clean h = h .0
-ended-is s due m n (Bad f p) h = (h .0, h .2)
-
-answered-is : (most : ℕ) (s : List ℕ) (q : Reading) → SessionIs most s q → Answered most s q
-unfolding SessionIs Answered
-answered-is most s (NoHeader f p) h = h
-answered-is most s (Counted c r) h = (h .most-due, ended-is s c (h .read .last) (length (r .events)) (r .end) (h .read .ends))
-
-pub total : (most : ℕ) (s : List ℕ) → Bytes s → Answered most s (session most s)
-total most s b = answered-is most s (session most s) (session-is most s b)
-
 -- The events before a fault are the same whatever follows its place: the reading of other bytes behind those before it begins with them.
 unfoldable pub Begins : ℕ → List Event → Reading → Type 0
 Begins c es (NoHeader f p) = ⊥
 Begins c es (Counted d r) = (d ≡ c) × ((more : List Event) × (r .events ≡ es ++ more))
 
-begins-with : (c : ℕ) (es : List Event) (r : Events) (q : Reading) → q ≡ Counted c (prepend es r) → Begins c es q
-unfolding Begins
-begins-with c es r q e = rw e (refl, (r .events, refl))
+-- What a cut did not end.
+abbrev pub NotCut : Fault → Type 0
+NotCut f = f ≡ Cut → ⊥
 
-pub prefix : (most : ℕ) (s : List ℕ) → Bytes s → (c : ℕ) (r : Events) → session most s ≡ Counted c r → (f : Fault) (p : ℕ) → r .end ≡ Bad f p
-    → (t : List ℕ) → Begins c (r .events) (session most (take p s ++ t))
-prefix most s b c r e f p i t = begins-with c (r .events) _ (session most (take p s ++ t)) (stays most s b c r e f p i t)
+unfoldable pub EndStands : End → Type 0
+EndStands Clean = ⊥
+EndStands (Bad f p) = NotCut f
 
--- And so is the fault, unless the input was cut there: nothing behind the input changes what was found.
-pub stands : (most : ℕ) (s t : List ℕ) → Bytes s → Settled (session most s) → session most (s ++ t) ≡ session most s
-stands most s t b i = session-stands most s t b i
+-- A session found bad by a fault that is no cut.
+unfoldable pub Settled : Reading → Type 0
+Settled (NoHeader f p) = NotCut f
+Settled (Counted c r) = EndStands (r .end)
 
 -- A good session: its events are all that is due, and nothing is left.
 abbrev pub Good : ℕ → List ℕ → List Event → Type 0
 Good most s es = session most s ≡ Counted (length es) (record { events = es; end = Clean })
-
--- It is good exactly if it is the written form of at most `most` events whose numbers fit.
-pub determined : (most : ℕ) (s : List ℕ) → Bytes s → (es : List Event) → Good most s es → (length es ≤ most) × AllFit es × (s ≡ sessionBytes es)
-unfolding sessionBytes
-determined most s b es e =
-    let w = whole most s b (length es) (record { events = es; end = Clean }) e in
-    (w .most-due, w .read .fit, all most s b (length es) (record { events = es; end = Clean }) e refl)
-
-pub complete : (most : ℕ) (es : List Event) → length es ≤ most → length es ≤ 65535 → AllFit es → Good most (sessionBytes es) es
-unfolding sessionBytes
-complete most es h k fit =
-    let z : length es - length es ≡ 0 = omega arith in
-    begins most (length es) (sessionBytes es) [] es h k fit (omega arith) (sym (append-nil _))
-    ∙ ap (Counted (length es)) (rw (z, none-due, append-nil, at-end))
-
--- It has at most so many bytes.
-pub size : (most : ℕ) (s : List ℕ) → Bytes s → (es : List Event) → Good most s es → length s ≤ 1 + length (written most) + 7 * most
-size most s b es e = let d = determined most s b es e in rw (d .2) (bound most es (d .0))
-
-pub longest-size : 1 + length (written longest) + 7 * longest ≡ 28675
-unfolding written groupsOf
-longest-size = refl

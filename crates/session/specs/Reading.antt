@@ -4,8 +4,8 @@ use Prim.Native.Nat.{ℕ, zero, suc, _-_, min}
 use mathlib.Core.List.{List, [], _∷_}
 use lib.Dec.{ltb, eqb}
 use lib.ListN.{length, drop}
-use Rattle.number.specs.Number as numbers
-use Rattle.number.specs.Number.{pick, Read, Refusal, number}
+use Rattle.leb128.specs.Number as numbers
+use Rattle.leb128.specs.Number.{pick, Read, Refusal, number}
 use Rattle.session.specs.declared.Fault.{Fault}
 use Rattle.session.specs.declared.Fault.the-variants.{Cut, NotShortest, TooLarge, Version, Count, Kind, LeftOver}
 use Rattle.session.specs.declared.Event.{Event}

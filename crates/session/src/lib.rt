@@ -1,7 +1,7 @@
 // Reads a session: what stands at a place of lent bytes (01, Session and listing).
 ghost use mathlib.Core.Path.{_≡_};
 ghost use Rattle.session.specs.Reading as rule;
-ghost use Rattle.session.specs.Cases.{Marked};
+ghost use Rattle.session.specs.Cases.{Cases};
 
 // Why a session is refused.
 pub enum Fault {
@@ -76,7 +76,7 @@ fn number_at(s: &[u8], at: usize) -> Number
     }
     let mut value = 0u16;
     let mut fault = 0u8;
-    let rest = number::read(&s[at..], &mut value, &mut fault);
+    let rest = leb128::read(&s[at..], &mut value, &mut fault);
     match fault {
         0 => Number::Value(value, s.len() - rest.len()),
         30 => Number::Bad(Fault::Cut, at),
@@ -167,7 +167,7 @@ pub fn end_at(s: &[u8], at: usize) -> End
     }
 }
 
-// Claim: the marked cases of sessions. What holds of every session is stated in crate claims.
-fn marked()
-    ensures { λ _. ⌜ Marked ⌝ }
+// Claim: the sessions that document 01 shows. What holds of every session is stated in crate claims.
+fn cases()
+    ensures { λ _. ⌜ Cases ⌝ }
 {}

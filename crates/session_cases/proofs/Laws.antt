@@ -9,7 +9,7 @@ use Rattle.session.specs.declared.Fault.{Fault}
 use Rattle.session.specs.declared.Event.{Event}
 use Rattle.session.specs.declared.Item.the-variants.{Next, Bad as BadItem}
 use Rattle.session.specs.Reading.{eventAt, endAt, Events, eventsAt}
-use Rattle.session.specs.Walk.{none-due, stops, goes-on}
+use Rattle.session.proofs.Walk.{none-due, stops, goes-on}
 use Rattle.session_cases.specs.declared.Outcome.{Outcome}
 use Rattle.session_cases.specs.declared.Outcome.the-variants.{Broken}
 use Rattle.session_cases.specs.Summary.{ended, outcome}

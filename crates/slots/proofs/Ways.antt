@@ -5,15 +5,15 @@ use mathlib.Core.List.{List}
 use mathlib.Core.Path.{_≡_, refl, sym}
 use lib.ListN.{getD}
 use Rattle.line.specs.Bits.{pick}
-use Rattle.line.specs.Laws.{pick-same}
-use Rattle.rules.specs.Registers.{lineControl, transmitted}
-use Rattle.rules.specs.Reception.{underWay, startEnded}
-use Rattle.rules.specs.Attempt.{waits}
-use Rattle.rules.specs.Service.{started, roleOf}
-use Rattle.rules.specs.State.{idleDue, isActive, serving, withService}
-use Rattle.rules.specs.Slots.{chooses, choiceMade, startMade, followsOn, drives, drivesAs}
-use Rattle.rules.specs.Run.{accept, answered}
-use Rattle.rules.specs.Answers.{controller}
+use Rattle.line.proofs.Laws.{pick-same}
+use Rattle.rules.specs.Definitions.Registers.{lineControl, transmitted}
+use Rattle.rules.specs.Definitions.Reception.{underWay, startEnded}
+use Rattle.rules.specs.Definitions.Attempt.{waits}
+use Rattle.rules.specs.Definitions.Service.{started, roleOf}
+use Rattle.rules.specs.Definitions.State.{idleDue, isActive, serving, withService}
+use Rattle.rules.specs.Definitions.Slots.{chooses, choiceMade, startMade, followsOn, drives, drivesAs}
+use Rattle.rules.specs.Definitions.Run.{accept, answered}
+use Rattle.rules.specs.Definitions.Answers.{controller}
 use Rattle.rules.specs.declared.Role.{Role}
 use Rattle.rules.specs.declared.Role.the-variants.{Nobody, Receiver, Sender}
 use Rattle.rules.specs.declared.Core.{Core}

@@ -3,10 +3,10 @@
 use Prim.Native.Nat.{ℕ}
 use mathlib.Core.Bool.{Bool, true}
 use Rattle.line.specs.Bits.{pick}
-use Rattle.rules.specs.Reception.{underWay, startEnded}
-use Rattle.rules.specs.Hearing.{receiverLevel}
-use Rattle.rules.specs.Attempt.{levelAt}
-use Rattle.rules.specs.Service.{roleOf}
+use Rattle.rules.specs.Definitions.Reception.{underWay, startEnded}
+use Rattle.rules.specs.Definitions.Hearing.{receiverLevel}
+use Rattle.rules.specs.Definitions.Attempt.{levelAt}
+use Rattle.rules.specs.Definitions.Service.{roleOf}
 use Rattle.rules.specs.declared.Reception.{Reception}
 use Rattle.rules.specs.declared.Progress.{Progress}
 use Rattle.rules.specs.declared.Coded.{Coded}

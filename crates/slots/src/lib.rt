@@ -1,11 +1,11 @@
 // A slot of the controller over a lent memory map: the sample is judged with its effects; then a waiting idle, the choice, the start, the answer (01, Receiving and Sending).
 ghost use mathlib.Core.Path.{_≡_};
 ghost use lib.ListN.{getD};
-ghost use Rattle.rules.specs.Registers as registers_rule;
-ghost use Rattle.rules.specs.Service as service_rule;
-ghost use Rattle.rules.specs.Slots as rule;
-ghost use Rattle.rules.specs.Run as run;
-ghost use Rattle.rules.specs.Answers as answers;
+ghost use Rattle.rules.specs.Definitions.Registers as registers_rule;
+ghost use Rattle.rules.specs.Definitions.Service as service_rule;
+ghost use Rattle.rules.specs.Definitions.Slots as rule;
+ghost use Rattle.rules.specs.Definitions.Run as run;
+ghost use Rattle.rules.specs.Definitions.Answers as answers;
 ghost use Rattle.slots.specs.Follow as follow;
 use registers::Map;
 use rules::Coded;

@@ -1,6 +1,6 @@
 // The stage of a service and its counts (01, Sending).
 ghost use mathlib.Core.Path.{_≡_};
-ghost use Rattle.rules.specs.Attempt as rule;
+ghost use Rattle.rules.specs.Definitions.Attempt as rule;
 use rules::Attempts;
 use rules::Counters;
 use rules::Progress;

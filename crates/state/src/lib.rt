@@ -1,6 +1,6 @@
 // The state but for the memory map: its modes, reset, a waiting idle (01, Memory map).
 ghost use mathlib.Core.Path.{_≡_};
-ghost use Rattle.rules.specs.State as rule;
+ghost use Rattle.rules.specs.Definitions.State as rule;
 use registers::Map;
 use rules::Activity;
 use rules::Core;

@@ -1,8 +1,8 @@
 // The registers that the controller itself writes, as bytes; a write to 0x0B, and the interrupt line (01, Memory map; 000, Control and Status Registers).
 ghost use mathlib.Core.Path.{_≡_};
 ghost use Prim.Native.Nat.{_≤_};
-ghost use Rattle.rules.specs.Registers as rule;
-ghost use Rattle.rules.specs.Host as host_rule;
+ghost use Rattle.rules.specs.Definitions.Registers as rule;
+ghost use Rattle.rules.specs.Definitions.Host as host_rule;
 use registers::Map;
 use rules::Controller;
 use rules::Flags;

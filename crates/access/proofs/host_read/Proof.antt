@@ -1,5 +1,5 @@
-use Rattle.rules.specs.Answers.{answerOf, answerLent}
-use Rattle.rules.specs.Run.{step}
+use Rattle.rules.specs.Definitions.Answers.{answerOf, answerLent}
+use Rattle.rules.specs.Definitions.Run.{step}
 use Rattle.access.proofs.host_read.Statement.{statement}
 use Rattle.access.proofs.host_read.Tie as tie
 

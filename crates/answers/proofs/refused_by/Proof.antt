@@ -1,5 +1,5 @@
 use borrow.Author.Needs.{needs}
-use Rattle.rules.specs.Answers.{refusedBy}
+use Rattle.rules.specs.Definitions.Answers.{refusedBy}
 use Rattle.answers.proofs.refused_by.Statement.{statement}
 use Rattle.answers.proofs.refused_by.Tie as tie
 

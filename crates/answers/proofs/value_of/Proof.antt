@@ -1,5 +1,5 @@
 use borrow.Author.Needs.{needs}
-use Rattle.rules.specs.Answers.{valueOf}
+use Rattle.rules.specs.Definitions.Answers.{valueOf}
 use Rattle.answers.proofs.value_of.Statement.{statement}
 use Rattle.answers.proofs.value_of.Tie as tie
 

@@ -1,4 +1,4 @@
-use Rattle.rules.specs.Attempt.{advance}
+use Rattle.rules.specs.Definitions.Attempt.{advance}
 use Rattle.attempt.specs.Following.{following}
 use Rattle.attempt.proofs.advance.Statement.{statement}
 use Rattle.attempt.proofs.advance.Tie as tie

@@ -1,5 +1,5 @@
 use borrow.Author.Tests.{eq-eqb, ne-eqb}
-use Rattle.rules.specs.Attempt.{difference}
+use Rattle.rules.specs.Definitions.Attempt.{difference}
 use Rattle.attempt.proofs.difference.Statement.{statement}
 use Rattle.attempt.proofs.difference.Tie as tie
 

@@ -1,6 +1,6 @@
 use borrow.Author.Needs.{needs}
 use borrow.Author.Tests.{eq-eqb, ne-eqb}
-use Rattle.rules.specs.Attempt.{due}
+use Rattle.rules.specs.Definitions.Attempt.{due}
 use Rattle.attempt.proofs.due.Statement.{statement}
 use Rattle.attempt.proofs.due.Tie as tie
 

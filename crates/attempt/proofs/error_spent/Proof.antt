@@ -1,4 +1,4 @@
-use Rattle.rules.specs.Attempt.{errorSpent, slotSpent}
+use Rattle.rules.specs.Definitions.Attempt.{errorSpent, slotSpent}
 use Rattle.attempt.proofs.error_spent.Statement.{statement}
 use Rattle.attempt.proofs.error_spent.Tie as tie
 

@@ -1,6 +1,6 @@
 use borrow.Author.Needs.{needs}
 use mathlib.Core.Path.{refl}
-use Rattle.rules.specs.Attempt.{exhausted}
+use Rattle.rules.specs.Definitions.Attempt.{exhausted}
 use Rattle.attempt.proofs.exhausted.Statement.{statement}
 use Rattle.attempt.proofs.exhausted.Tie as tie
 

@@ -1,4 +1,4 @@
-use Rattle.rules.specs.Attempt.{judge}
+use Rattle.rules.specs.Definitions.Attempt.{judge}
 use Rattle.attempt.proofs.judge.Statement.{statement}
 use Rattle.attempt.proofs.judge.Tie as tie
 

@@ -1,7 +1,7 @@
 use borrow.Author.Needs.{needs}
 use borrow.Author.Tests.{lt-ltb, le-ltb, eq-eqb, ne-eqb}
 use Rattle.line.specs.Frame.{size}
-use Rattle.rules.specs.Attempt.{judgeSlot}
+use Rattle.rules.specs.Definitions.Attempt.{judgeSlot}
 use Rattle.attempt.proofs.judge_slot.Statement.{statement}
 use Rattle.attempt.proofs.judge_slot.Tie as tie
 

@@ -1,4 +1,4 @@
-use Rattle.rules.specs.Attempt.{lostSpent, slotSpent}
+use Rattle.rules.specs.Definitions.Attempt.{lostSpent, slotSpent}
 use Rattle.attempt.proofs.lost_spent.Statement.{statement}
 use Rattle.attempt.proofs.lost_spent.Tie as tie
 

@@ -1,6 +1,6 @@
 use borrow.Author.Needs.{needs}
 use borrow.Author.Tests.{lt-ltb, le-ltb}
-use Rattle.rules.specs.Attempt.{moreAttempts}
+use Rattle.rules.specs.Definitions.Attempt.{moreAttempts}
 use Rattle.attempt.proofs.more_attempts.Statement.{statement}
 use Rattle.attempt.proofs.more_attempts.Tie as tie
 

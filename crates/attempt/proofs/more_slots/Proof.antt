@@ -1,6 +1,6 @@
 use borrow.Author.Needs.{needs}
 use borrow.Author.Tests.{lt-ltb, le-ltb}
-use Rattle.rules.specs.Attempt.{moreSlots}
+use Rattle.rules.specs.Definitions.Attempt.{moreSlots}
 use Rattle.attempt.proofs.more_slots.Statement.{statement}
 use Rattle.attempt.proofs.more_slots.Tie as tie
 

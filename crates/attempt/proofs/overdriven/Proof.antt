@@ -1,4 +1,4 @@
-use Rattle.rules.specs.Attempt.{overdriven}
+use Rattle.rules.specs.Definitions.Attempt.{overdriven}
 use Rattle.attempt.proofs.overdriven.Statement.{statement}
 use Rattle.attempt.proofs.overdriven.Tie as tie
 

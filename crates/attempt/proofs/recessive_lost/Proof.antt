@@ -1,4 +1,4 @@
-use Rattle.rules.specs.Attempt.{recessiveLost}
+use Rattle.rules.specs.Definitions.Attempt.{recessiveLost}
 use Rattle.attempt.proofs.recessive_lost.Statement.{statement}
 use Rattle.attempt.proofs.recessive_lost.Tie as tie
 

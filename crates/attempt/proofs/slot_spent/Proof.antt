@@ -1,4 +1,4 @@
-use Rattle.rules.specs.Attempt.{slotSpent}
+use Rattle.rules.specs.Definitions.Attempt.{slotSpent}
 use Rattle.attempt.proofs.slot_spent.Statement.{statement}
 use Rattle.attempt.proofs.slot_spent.Tie as tie
 

@@ -1,7 +1,7 @@
 use borrow.Author.Needs.{needs}
-use Rattle.rules.specs.Attempt.{judge, advance}
-use Rattle.rules.specs.Sending.{judged}
-use Rattle.attempt.specs.Following.{room}
+use Rattle.rules.specs.Definitions.Attempt.{judge, advance}
+use Rattle.rules.proofs.Ranges.Service.{judged}
+use Rattle.attempt.proofs.Room.{room}
 use Rattle.attempt.proofs.tried.Statement.{statement}
 use Rattle.attempt.proofs.tried.Tie as tie
 

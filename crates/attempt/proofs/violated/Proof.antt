@@ -1,4 +1,4 @@
-use Rattle.rules.specs.Attempt.{violated}
+use Rattle.rules.specs.Definitions.Attempt.{violated}
 use Rattle.attempt.proofs.violated.Statement.{statement}
 use Rattle.attempt.proofs.violated.Tie as tie
 

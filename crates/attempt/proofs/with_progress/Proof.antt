@@ -1,5 +1,5 @@
 use mathlib.Core.Path.{refl}
-use Rattle.rules.specs.Attempt.{withProgress}
+use Rattle.rules.specs.Definitions.Attempt.{withProgress}
 use Rattle.attempt.proofs.with_progress.Statement.{statement}
 use Rattle.attempt.proofs.with_progress.Tie as tie
 

@@ -1,4 +1,4 @@
-use Rattle.bench_record.specs.Claims.{first-events, before-a-fault}
+use Rattle.bench_record.proofs.FirstLines.{first-events, before-a-fault}
 use Rattle.bench_record.proofs.first_lines.Statement.{statement}
 use Rattle.bench_record.proofs.first_lines.Tie as tie
 

@@ -6,7 +6,7 @@ use mathlib.Core.Path.{_≡_, sym}
 use mir.Syntax.{w8}
 use lib.ListN.{length}
 use lib.Seq.{take-all, length-take-le}
-use Rattle.rules.specs.Hearing.{checkDue}
+use Rattle.rules.specs.Definitions.Hearing.{checkDue}
 use Rattle.body.proofs.check_due.Statement.{statement}
 use Rattle.body.proofs.check_due.Tie as tie
 

@@ -1,7 +1,7 @@
 use native.Mathlib.Omega.{arith}
 use Rattle.line.specs.Check.{check, allOnes}
 use Rattle.line.specs.Frame.{byteBits}
-use Rattle.line.specs.Laws.{remainder-below}
+use Rattle.line.proofs.Laws.{remainder-below}
 use Rattle.body.proofs.check_of.Statement.{statement}
 use Rattle.body.proofs.check_of.Tie as tie
 

@@ -1,5 +1,5 @@
 use borrow.Author.Needs.{needs}
-use Rattle.rules.specs.Hearing.{checkReceived}
+use Rattle.rules.specs.Definitions.Hearing.{checkReceived}
 use Rattle.body.proofs.check_received.Statement.{statement}
 use Rattle.body.proofs.check_received.Tie as tie
 

@@ -1,5 +1,5 @@
 use borrow.Author.Tests.{lt-ltb, le-ltb}
-use Rattle.rules.specs.Hearing.{hearBody}
+use Rattle.rules.specs.Definitions.Hearing.{hearBody}
 use Rattle.body.proofs.hear_body.Statement.{statement}
 use Rattle.body.proofs.hear_body.Tie as tie
 

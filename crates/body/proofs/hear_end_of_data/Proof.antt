@@ -1,6 +1,6 @@
 use borrow.Author.Needs.{needs}
 use borrow.Author.Tests.{eq-eqb, ne-eqb}
-use Rattle.rules.specs.Hearing.{hearEndOfData}
+use Rattle.rules.specs.Definitions.Hearing.{hearEndOfData}
 use Rattle.body.proofs.hear_end_of_data.Statement.{statement}
 use Rattle.body.proofs.hear_end_of_data.Tie as tie
 

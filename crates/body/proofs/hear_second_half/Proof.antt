@@ -1,6 +1,6 @@
 use borrow.Author.Needs.{needs}
 use borrow.Author.Tests.{lt-ltb, le-ltb, eq-eqb, ne-eqb}
-use Rattle.rules.specs.Hearing.{hearSecondHalf}
+use Rattle.rules.specs.Definitions.Hearing.{hearSecondHalf}
 use Rattle.body.proofs.hear_second_half.Statement.{statement}
 use Rattle.body.proofs.hear_second_half.Tie as tie
 

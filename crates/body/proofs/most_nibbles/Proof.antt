@@ -1,6 +1,6 @@
 use borrow.Author.Needs.{needs}
 use mathlib.Core.Path.{refl}
-use Rattle.rules.specs.Hearing.{mostNibbles}
+use Rattle.rules.specs.Definitions.Hearing.{mostNibbles}
 use Rattle.body.proofs.most_nibbles.Statement.{statement}
 use Rattle.body.proofs.most_nibbles.Tie as tie
 

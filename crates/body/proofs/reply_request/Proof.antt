@@ -1,4 +1,4 @@
-use Rattle.rules.specs.Hearing.{replyRequest}
+use Rattle.rules.specs.Definitions.Hearing.{replyRequest}
 use Rattle.body.proofs.reply_request.Statement.{statement}
 use Rattle.body.proofs.reply_request.Tie as tie
 

@@ -1,5 +1,5 @@
 use borrow.Author.Tests.{lt-ltb, le-ltb, eq-eqb, ne-eqb}
-use Rattle.rules.specs.Hearing.{whole}
+use Rattle.rules.specs.Definitions.Hearing.{whole}
 use Rattle.body.proofs.whole.Statement.{statement}
 use Rattle.body.proofs.whole.Tie as tie
 

@@ -1,5 +1,5 @@
 use mathlib.Core.Path.{refl}
-use Rattle.rules.specs.Channels.{acknowledgeAsked}
+use Rattle.rules.specs.Definitions.Channels.{acknowledgeAsked}
 use Rattle.channels.proofs.acknowledge_asked.Statement.{statement}
 use Rattle.channels.proofs.acknowledge_asked.Tie as tie
 

@@ -1,7 +1,7 @@
 use borrow.Author.Needs.{needs}
 use mathlib.Core.Path.{refl}
 use native.Mathlib.Omega.{arith}
-use Rattle.rules.specs.Channels.{base}
+use Rattle.rules.specs.Definitions.Channels.{base}
 use Rattle.channels.proofs.base.Statement.{statement}
 use Rattle.channels.proofs.base.Tie as tie
 

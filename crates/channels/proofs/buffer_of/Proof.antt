@@ -1,5 +1,5 @@
 use borrow.Author.Tests.{eq-eqb, ne-eqb}
-use Rattle.rules.specs.Channels.{bufferOf}
+use Rattle.rules.specs.Definitions.Channels.{bufferOf}
 use Rattle.channels.proofs.buffer_of.Statement.{statement}
 use Rattle.channels.proofs.buffer_of.Tie as tie
 

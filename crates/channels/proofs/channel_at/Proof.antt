@@ -1,5 +1,5 @@
 use borrow.Author.Needs.{needs}
-use Rattle.rules.specs.Channels.{channelAt}
+use Rattle.rules.specs.Definitions.Channels.{channelAt}
 use Rattle.channels.proofs.channel_at.Statement.{statement}
 use Rattle.channels.proofs.channel_at.Tie as tie
 

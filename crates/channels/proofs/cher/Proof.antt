@@ -1,5 +1,5 @@
 use mathlib.Core.Path.{refl}
-use Rattle.rules.specs.Channels.{cher}
+use Rattle.rules.specs.Definitions.Channels.{cher}
 use Rattle.channels.proofs.cher.Statement.{statement}
 use Rattle.channels.proofs.cher.Tie as tie
 

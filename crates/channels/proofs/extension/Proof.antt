@@ -1,5 +1,5 @@
 use mathlib.Core.Path.{refl}
-use Rattle.rules.specs.Channels.{extension}
+use Rattle.rules.specs.Definitions.Channels.{extension}
 use Rattle.channels.proofs.extension.Statement.{statement}
 use Rattle.channels.proofs.extension.Tie as tie
 

@@ -1,5 +1,5 @@
 use mathlib.Core.Path.{refl}
-use Rattle.rules.specs.Channels.{lengthOf}
+use Rattle.rules.specs.Definitions.Channels.{lengthOf}
 use Rattle.channels.proofs.length_of.Statement.{statement}
 use Rattle.channels.proofs.length_of.Tie as tie
 

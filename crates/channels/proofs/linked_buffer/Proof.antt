@@ -1,5 +1,5 @@
 use borrow.Author.Tests.{le-leb, lt-leb, eq-eqb, ne-eqb}
-use Rattle.rules.specs.Channels.{linkedBuffer}
+use Rattle.rules.specs.Definitions.Channels.{linkedBuffer}
 use Rattle.channels.proofs.linked_buffer.Statement.{statement}
 use Rattle.channels.proofs.linked_buffer.Tie as tie
 

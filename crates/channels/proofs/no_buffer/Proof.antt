@@ -1,5 +1,5 @@
 use mathlib.Core.Path.{refl}
-use Rattle.rules.specs.Channels.{noBuffer}
+use Rattle.rules.specs.Definitions.Channels.{noBuffer}
 use Rattle.channels.proofs.no_buffer.Statement.{statement}
 use Rattle.channels.proofs.no_buffer.Tie as tie
 

@@ -1,5 +1,5 @@
 use borrow.Author.Tests.{eq-eqb, ne-eqb}
-use Rattle.rules.specs.Channels.{ownBuffer}
+use Rattle.rules.specs.Definitions.Channels.{ownBuffer}
 use Rattle.channels.proofs.own_buffer.Statement.{statement}
 use Rattle.channels.proofs.own_buffer.Tie as tie
 

@@ -1,5 +1,5 @@
 use mathlib.Core.Path.{refl}
-use Rattle.rules.specs.Channels.{reads}
+use Rattle.rules.specs.Definitions.Channels.{reads}
 use Rattle.channels.proofs.reads.Statement.{statement}
 use Rattle.channels.proofs.reads.Tie as tie
 

@@ -1,5 +1,5 @@
 use mathlib.Core.Path.{refl}
-use Rattle.rules.specs.Channels.{remote}
+use Rattle.rules.specs.Definitions.Channels.{remote}
 use Rattle.channels.proofs.remote.Statement.{statement}
 use Rattle.channels.proofs.remote.Tie as tie
 

@@ -1,6 +1,24 @@
-use Rattle.claims.specs.Claims.{receiving}
+use Rattle.rules.proofs.Receiving.Delivered.{delivery}
+use Rattle.rules.proofs.Runs.{driven, stored}
+use Rattle.rules.proofs.OwnFrames.EveryRun.{own-frames}
+use Rattle.rules.proofs.Interrupts.Raised.{interrupts}
+use Rattle.claims.proofs.Decoded.{every-run}
+use Rattle.claims.proofs.Agree.{agree-sound, agree-complete}
+use Rattle.claims.specs.Claims.{Receiving}
 use Rattle.claims.proofs.receiving_claims.Statement.{statement}
 use Rattle.claims.proofs.receiving_claims.Tie as tie
+
+receiving : Receiving
+receiving =
+    record {
+      delivered = every-run;
+      sound = agree-sound;
+      complete = agree-complete;
+      acknowledged = delivery;
+      closed = record { kept = delivery; driven = driven; stored = stored };
+      own = own-frames;
+      interrupts = interrupts;
+    }
 
 pub receiving-claims-spec : {M : Type 1} → statement M
 receiving-claims-spec = tie.close (tie.spec (λ c. receiving))

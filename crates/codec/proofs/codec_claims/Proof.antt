@@ -1,4 +1,4 @@
-use Rattle.codec.specs.Claims.{codec}
+use Rattle.codec.proofs.Exact.{codec}
 use Rattle.codec.proofs.codec_claims.Statement.{statement}
 use Rattle.codec.proofs.codec_claims.Tie as tie
 

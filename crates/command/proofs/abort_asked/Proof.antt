@@ -1,5 +1,5 @@
 use mathlib.Core.Path.{refl}
-use Rattle.rules.specs.Service.{abortAsked}
+use Rattle.rules.specs.Definitions.Service.{abortAsked}
 use Rattle.command.proofs.abort_asked.Statement.{statement}
 use Rattle.command.proofs.abort_asked.Tie as tie
 

@@ -1,6 +1,6 @@
 use borrow.Author.Needs.{needs}
 use borrow.Author.Tests.{eq-eqb, ne-eqb}
-use Rattle.rules.specs.Service.{aborts}
+use Rattle.rules.specs.Definitions.Service.{aborts}
 use Rattle.command.proofs.aborts.Statement.{statement}
 use Rattle.command.proofs.aborts.Tie as tie
 

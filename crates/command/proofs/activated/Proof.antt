@@ -1,4 +1,4 @@
-use Rattle.rules.specs.State.{activated, withActivity, inMode}
+use Rattle.rules.specs.Definitions.State.{activated, withActivity, inMode}
 use Rattle.command.proofs.activated.Statement.{statement}
 use Rattle.command.proofs.activated.Tie as tie
 

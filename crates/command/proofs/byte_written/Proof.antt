@@ -1,6 +1,6 @@
-use Rattle.rules.specs.Host.{byteWritten, keptByte}
-use Rattle.rules.specs.Service.{memoryEnded}
-use Rattle.rules.specs.Mailbox.{markedChtx, markedCher}
+use Rattle.rules.specs.Definitions.Host.{byteWritten, keptByte}
+use Rattle.rules.specs.Definitions.Service.{memoryEnded}
+use Rattle.rules.specs.Definitions.Mailbox.{markedChtx, markedCher}
 use Rattle.command.proofs.byte_written.Statement.{statement}
 use Rattle.command.proofs.byte_written.Tie as tie
 

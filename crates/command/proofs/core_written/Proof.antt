@@ -1,5 +1,5 @@
 use borrow.Author.Tests.{eq-eqb, ne-eqb}
-use Rattle.rules.specs.Host.{coreWritten}
+use Rattle.rules.specs.Definitions.Host.{coreWritten}
 use Rattle.command.proofs.core_written.Statement.{statement}
 use Rattle.command.proofs.core_written.Tie as tie
 

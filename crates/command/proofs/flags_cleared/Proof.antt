@@ -1,6 +1,6 @@
-use Rattle.rules.specs.Host.{flagsCleared}
-use Rattle.rules.specs.State.{withReport}
-use Rattle.rules.specs.Delivery.{withFlags}
+use Rattle.rules.specs.Definitions.Host.{flagsCleared}
+use Rattle.rules.specs.Definitions.State.{withReport}
+use Rattle.rules.specs.Definitions.Delivery.{withFlags}
 use Rattle.command.proofs.flags_cleared.Statement.{statement}
 use Rattle.command.proofs.flags_cleared.Tie as tie
 

@@ -1,4 +1,4 @@
-use Rattle.rules.specs.State.{idleAsked, withActivity, inMode}
+use Rattle.rules.specs.Definitions.State.{idleAsked, withActivity, inMode}
 use Rattle.command.proofs.idle_asked.Statement.{statement}
 use Rattle.command.proofs.idle_asked.Tie as tie
 

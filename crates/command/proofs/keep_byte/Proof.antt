@@ -1,5 +1,5 @@
 use borrow.Author.Needs.{needs}
-use Rattle.rules.specs.Host.{keptByte}
+use Rattle.rules.specs.Definitions.Host.{keptByte}
 use Rattle.command.proofs.keep_byte.Statement.{statement}
 use Rattle.command.proofs.keep_byte.Tie as tie
 

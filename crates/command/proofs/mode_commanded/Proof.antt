@@ -1,5 +1,5 @@
 use mathlib.Core.Path.{ap}
-use Rattle.rules.specs.Host.{modeCommanded}
+use Rattle.rules.specs.Definitions.Host.{modeCommanded}
 use Rattle.registers.specs.Command.{asked}
 use Rattle.registers.specs.declared.Command.{Command}
 use Rattle.command.proofs.mode_commanded.Statement.{statement}

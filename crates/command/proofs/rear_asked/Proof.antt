@@ -1,4 +1,4 @@
-use Rattle.rules.specs.Service.{rearAsked}
+use Rattle.rules.specs.Definitions.Service.{rearAsked}
 use Rattle.command.proofs.rear_asked.Statement.{statement}
 use Rattle.command.proofs.rear_asked.Tie as tie
 

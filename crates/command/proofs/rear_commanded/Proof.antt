@@ -1,5 +1,5 @@
 use mathlib.Core.Path.{ap}
-use Rattle.rules.specs.Host.{rearCommanded}
+use Rattle.rules.specs.Definitions.Host.{rearCommanded}
 use Rattle.registers.specs.Command.{asked}
 use Rattle.registers.specs.declared.Command.{Command}
 use Rattle.command.proofs.rear_commanded.Statement.{statement}

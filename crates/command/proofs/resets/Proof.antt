@@ -1,6 +1,6 @@
 use mathlib.Core.Path.{ap}
 use borrow.Author.Tests.{eq-eqb, ne-eqb}
-use Rattle.rules.specs.Host.{resets}
+use Rattle.rules.specs.Definitions.Host.{resets}
 use Rattle.registers.specs.Command.{asked}
 use Rattle.registers.specs.declared.Command.{Command}
 use Rattle.command.proofs.resets.Statement.{statement}

@@ -1,5 +1,5 @@
 use borrow.Author.Tests.{eq-eqb, ne-eqb}
-use Rattle.rules.specs.Host.{serviceAsked}
+use Rattle.rules.specs.Definitions.Host.{serviceAsked}
 use Rattle.command.proofs.service_asked.Statement.{statement}
 use Rattle.command.proofs.service_asked.Tie as tie
 

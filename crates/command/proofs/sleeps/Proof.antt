@@ -1,6 +1,6 @@
 use mathlib.Core.Path.{ap}
 use borrow.Author.Tests.{eq-eqb, ne-eqb}
-use Rattle.rules.specs.Host.{sleeps}
+use Rattle.rules.specs.Definitions.Host.{sleeps}
 use Rattle.registers.specs.Command.{asked}
 use Rattle.registers.specs.declared.Command.{Command}
 use Rattle.command.proofs.sleeps.Statement.{statement}

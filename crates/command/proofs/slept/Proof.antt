@@ -1,4 +1,4 @@
-use Rattle.rules.specs.State.{slept, inMode}
+use Rattle.rules.specs.Definitions.State.{slept, inMode}
 use Rattle.command.proofs.slept.Statement.{statement}
 use Rattle.command.proofs.slept.Tie as tie
 

@@ -1,5 +1,5 @@
-use Rattle.rules.specs.Host.{stoppedCore}
-use Rattle.rules.specs.State.{withService, withReport}
+use Rattle.rules.specs.Definitions.Host.{stoppedCore}
+use Rattle.rules.specs.Definitions.State.{withService, withReport}
 use Rattle.command.proofs.stopped_core.Statement.{statement}
 use Rattle.command.proofs.stopped_core.Tie as tie
 

@@ -1,4 +1,4 @@
-use Rattle.rules.specs.Host.{written, resetAll}
+use Rattle.rules.specs.Definitions.Host.{written, resetAll}
 use Rattle.command.proofs.written.Statement.{statement}
 use Rattle.command.proofs.written.Tie as tie
 

@@ -1,5 +1,5 @@
-use Rattle.rules.specs.Run.{fresh}
-use Rattle.rules.specs.Host.{resetAll}
+use Rattle.rules.specs.Definitions.Run.{fresh}
+use Rattle.rules.specs.Definitions.Host.{resetAll}
 use Rattle.controller.proofs.fresh.Statement.{statement}
 use Rattle.controller.proofs.fresh.Tie as tie
 

@@ -1,5 +1,5 @@
-use Rattle.rules.specs.Answers.{answerOf, answerLent}
-use Rattle.rules.specs.Run.{step}
+use Rattle.rules.specs.Definitions.Answers.{answerOf, answerLent}
+use Rattle.rules.specs.Definitions.Run.{step}
 use Rattle.controller.proofs.slot.Statement.{statement}
 use Rattle.controller.proofs.slot.Tie as tie
 

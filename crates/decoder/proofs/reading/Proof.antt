@@ -3,7 +3,7 @@ use mathlib.Core.Path.{sym, _∙_}
 use native.Mathlib.Omega.{arith}
 use Rattle.line.specs.Frame.{start}
 use Rattle.decoder.specs.View.{view}
-use Rattle.codec.specs.RoundTrip.{below-levels}
+use Rattle.codec.proofs.RoundTrip.{below-levels}
 use Rattle.decoder.proofs.Views.{bad-level, bad-start, bad-code, coded, begun}
 use Rattle.decoder.proofs.reading.Statement.{statement}
 use Rattle.decoder.proofs.reading.Tie as tie

@@ -2,7 +2,7 @@ use Prim.Native.Nat.{_*_, _-_}
 use mathlib.Core.Path.{sym, _∙_}
 use native.Mathlib.Omega.{arith}
 use Rattle.line.specs.Check.{allOnes}
-use Rattle.line.specs.Laws.{remainder-below}
+use Rattle.line.proofs.Laws.{remainder-below}
 use Rattle.decoder.specs.View.{view}
 use Rattle.decoder.proofs.Views.{right-view}
 use Rattle.decoder.proofs.right.Statement.{statement}

@@ -1,4 +1,4 @@
-use Rattle.rules.specs.Delivery.{delivered}
+use Rattle.rules.specs.Definitions.Delivery.{delivered}
 use Rattle.delivery.proofs.delivered.Statement.{statement}
 use Rattle.delivery.proofs.delivered.Tie as tie
 

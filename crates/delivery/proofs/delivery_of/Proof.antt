@@ -1,4 +1,4 @@
-use Rattle.rules.specs.Delivery.{deliveryOf}
+use Rattle.rules.specs.Definitions.Delivery.{deliveryOf}
 use Rattle.delivery.proofs.delivery_of.Statement.{statement}
 use Rattle.delivery.proofs.delivery_of.Tie as tie
 

@@ -1,5 +1,5 @@
 use borrow.Author.Needs.{needs}
-use Rattle.rules.specs.Delivery.{deliveryTo}
+use Rattle.rules.specs.Definitions.Delivery.{deliveryTo}
 use Rattle.delivery.proofs.delivery_to.Statement.{statement}
 use Rattle.delivery.proofs.delivery_to.Tie as tie
 

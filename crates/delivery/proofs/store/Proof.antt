@@ -1,5 +1,5 @@
 use borrow.Author.Needs.{needs}
-use Rattle.rules.specs.Delivery.{memoryStored}
+use Rattle.rules.specs.Definitions.Delivery.{memoryStored}
 use Rattle.delivery.proofs.store.Statement.{statement}
 use Rattle.delivery.proofs.store.Tie as tie
 

@@ -3,7 +3,7 @@ use borrow.Kind.Array.{eInt, good-length}
 use mir.Syntax.{w8}
 use borrow.Author.Tests.{lt-ltb, le-ltb}
 use Rattle.driver.specs.Driver.{placed}
-use Rattle.driver.specs.Levels.{level-placed}
+use Rattle.driver.proofs.Levels.{level-placed}
 use Rattle.driver.proofs.level_of.Statement.{statement}
 use Rattle.driver.proofs.level_of.Tie as tie
 

@@ -3,7 +3,7 @@ use mathlib.Core.Path.{sym, _∙_}
 use native.Mathlib.Omega.{arith}
 use Rattle.line.specs.Bits.{bits}
 use Rattle.line.specs.Frame.{byteBits}
-use Rattle.line.specs.Laws.{remainder-below}
+use Rattle.line.proofs.Laws.{remainder-below}
 use Rattle.encoder.proofs.Puts.{check-bits}
 use Rattle.encoder.proofs.check_of.Statement.{statement}
 use Rattle.encoder.proofs.check_of.Tie as tie

@@ -3,9 +3,9 @@ use mathlib.Core.Path.{refl, _∙_}
 use native.Mathlib.Omega.{arith}
 use borrow.Author.Tests.{lt-ltb, le-ltb}
 use Rattle.line.specs.Frame.{slots, size}
-use Rattle.line.specs.Laws.{slots-length}
+use Rattle.line.proofs.Laws.{slots-length}
 use Rattle.codec.specs.Encode.{encoded, encodedRoom, given}
-use Rattle.codec.specs.Laws.{laid-sets}
+use Rattle.codec.proofs.Laws.{laid-sets}
 use Rattle.encoder.proofs.encode.Statement.{statement}
 use Rattle.encoder.proofs.encode.Tie as tie
 

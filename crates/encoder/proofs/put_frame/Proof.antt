@@ -4,7 +4,7 @@ use mathlib.Core.Path.{refl}
 use native.Mathlib.Omega.{arith}
 use lib.ListN.{length}
 use Rattle.line.specs.Frame.{start, covered}
-use Rattle.line.specs.Laws.{check-below}
+use Rattle.line.proofs.Laws.{check-below}
 use Rattle.encoder.proofs.Puts.{whole-frame}
 use Rattle.encoder.proofs.put_frame.Statement.{statement}
 use Rattle.encoder.proofs.put_frame.Tie as tie

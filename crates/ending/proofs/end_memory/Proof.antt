@@ -1,5 +1,5 @@
-use Rattle.rules.specs.Service.{memoryEnded}
-use Rattle.rules.specs.Mailbox.{markedChtx, markedCher}
+use Rattle.rules.specs.Definitions.Service.{memoryEnded}
+use Rattle.rules.specs.Definitions.Mailbox.{markedChtx, markedCher}
 use Rattle.ending.proofs.end_memory.Statement.{statement}
 use Rattle.ending.proofs.end_memory.Tie as tie
 

@@ -1,4 +1,4 @@
-use Rattle.rules.specs.Service.{endingOf}
+use Rattle.rules.specs.Definitions.Service.{endingOf}
 use Rattle.ending.proofs.ending_of.Statement.{statement}
 use Rattle.ending.proofs.ending_of.Tie as tie
 

@@ -1,4 +1,4 @@
-use Rattle.rules.specs.Service.{resting}
+use Rattle.rules.specs.Definitions.Service.{resting}
 use Rattle.ending.proofs.resting.Statement.{statement}
 use Rattle.ending.proofs.resting.Tie as tie
 

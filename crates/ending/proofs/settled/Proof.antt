@@ -1,4 +1,4 @@
-use Rattle.rules.specs.Service.{settled}
+use Rattle.rules.specs.Definitions.Service.{settled}
 use Rattle.ending.proofs.settled.Statement.{statement}
 use Rattle.ending.proofs.settled.Tie as tie
 

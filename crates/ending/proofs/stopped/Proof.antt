@@ -1,4 +1,4 @@
-use Rattle.rules.specs.Service.{stopped}
+use Rattle.rules.specs.Definitions.Service.{stopped}
 use Rattle.ending.proofs.stopped.Statement.{statement}
 use Rattle.ending.proofs.stopped.Tie as tie
 

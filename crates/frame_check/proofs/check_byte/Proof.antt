@@ -1,5 +1,5 @@
 use mathlib.Core.Path.{_∙_}
-use Rattle.line.specs.Laws.{bits-split, remainder-append}
+use Rattle.line.proofs.Laws.{bits-split, remainder-append}
 use Rattle.frame_check.proofs.check_byte.Statement.{statement}
 use Rattle.frame_check.proofs.check_byte.Tie as tie
 

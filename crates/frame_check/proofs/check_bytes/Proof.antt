@@ -4,7 +4,7 @@ use native.Mathlib.Omega.{arith}
 use lib.ListN.{length, drop}
 use Rattle.line.specs.Check.{remainder}
 use Rattle.line.specs.Frame.{byteBits}
-use Rattle.line.specs.Laws.{bytes-next, bytes-end}
+use Rattle.line.proofs.Laws.{bytes-next, bytes-end}
 use Rattle.frame_check.proofs.check_bytes.Statement.{statement}
 use Rattle.frame_check.proofs.check_bytes.Tie as tie
 

@@ -1,4 +1,4 @@
-use Rattle.rules.specs.Reception.{unsettled, afterGood}
+use Rattle.rules.specs.Definitions.Reception.{unsettled, afterGood}
 use Rattle.free_line.proofs.after_good.Statement.{statement}
 use Rattle.free_line.proofs.after_good.Tie as tie
 

@@ -1,6 +1,6 @@
 use borrow.Author.Needs.{needs}
 use borrow.Author.Tests.{lt-ltb, le-ltb, eq-eqb, ne-eqb}
-use Rattle.rules.specs.Reception.{counted}
+use Rattle.rules.specs.Definitions.Reception.{counted}
 use Rattle.free_line.proofs.counted.Statement.{statement}
 use Rattle.free_line.proofs.counted.Tie as tie
 

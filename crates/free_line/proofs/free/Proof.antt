@@ -1,4 +1,4 @@
-use Rattle.rules.specs.Reception.{free}
+use Rattle.rules.specs.Definitions.Reception.{free}
 use Rattle.free_line.proofs.free.Statement.{statement}
 use Rattle.free_line.proofs.free.Tie as tie
 

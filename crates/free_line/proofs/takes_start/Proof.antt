@@ -1,4 +1,4 @@
-use Rattle.rules.specs.Reception.{takesStart}
+use Rattle.rules.specs.Definitions.Reception.{takesStart}
 use Rattle.free_line.proofs.takes_start.Statement.{statement}
 use Rattle.free_line.proofs.takes_start.Tie as tie
 

@@ -1,5 +1,5 @@
 use mathlib.Core.Path.{refl}
-use Rattle.rules.specs.Reception.{unsettled}
+use Rattle.rules.specs.Definitions.Reception.{unsettled}
 use Rattle.free_line.proofs.unsettled.Statement.{statement}
 use Rattle.free_line.proofs.unsettled.Tie as tie
 

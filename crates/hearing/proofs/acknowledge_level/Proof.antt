@@ -1,5 +1,5 @@
 use borrow.Author.Tests.{eq-eqb, ne-eqb}
-use Rattle.rules.specs.Hearing.{acknowledgeLevel}
+use Rattle.rules.specs.Definitions.Hearing.{acknowledgeLevel}
 use Rattle.hearing.proofs.acknowledge_level.Statement.{statement}
 use Rattle.hearing.proofs.acknowledge_level.Tie as tie
 

@@ -1,5 +1,5 @@
 use borrow.Author.Tests.{eq-eqb, ne-eqb}
-use Rattle.rules.specs.Hearing.{acknowledgeWrong}
+use Rattle.rules.specs.Definitions.Hearing.{acknowledgeWrong}
 use Rattle.hearing.proofs.acknowledge_wrong.Statement.{statement}
 use Rattle.hearing.proofs.acknowledge_wrong.Tie as tie
 

@@ -1,5 +1,5 @@
 use borrow.Author.Needs.{needs}
-use Rattle.rules.specs.Hearing.{acknowledges}
+use Rattle.rules.specs.Definitions.Hearing.{acknowledges}
 use Rattle.hearing.proofs.acknowledges.Statement.{statement}
 use Rattle.hearing.proofs.acknowledges.Tie as tie
 

@@ -1,5 +1,5 @@
 use mathlib.Core.Path.{refl}
-use Rattle.rules.specs.Hearing.{fits}
+use Rattle.rules.specs.Definitions.Hearing.{fits}
 use Rattle.hearing.proofs.fits.Statement.{statement}
 use Rattle.hearing.proofs.fits.Tie as tie
 

@@ -1,6 +1,6 @@
 use borrow.Author.Needs.{needs}
 use borrow.Author.Tests.{eq-eqb, ne-eqb}
-use Rattle.rules.specs.Hearing.{hearAcknowledge}
+use Rattle.rules.specs.Definitions.Hearing.{hearAcknowledge}
 use Rattle.hearing.proofs.hear_acknowledge.Statement.{statement}
 use Rattle.hearing.proofs.hear_acknowledge.Tie as tie
 

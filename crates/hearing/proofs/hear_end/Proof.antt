@@ -1,5 +1,5 @@
 use borrow.Author.Tests.{lt-ltb, le-ltb, eq-eqb, ne-eqb}
-use Rattle.rules.specs.Hearing.{hearEnd}
+use Rattle.rules.specs.Definitions.Hearing.{hearEnd}
 use Rattle.hearing.proofs.hear_end.Statement.{statement}
 use Rattle.hearing.proofs.hear_end.Tie as tie
 

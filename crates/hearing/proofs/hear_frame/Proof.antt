@@ -1,5 +1,5 @@
 use borrow.Author.Needs.{needs}
-use Rattle.rules.specs.Hearing.{hearFrame, hearIn}
+use Rattle.rules.specs.Definitions.Hearing.{hearFrame, hearIn}
 use Rattle.hearing.proofs.hear_frame.Statement.{statement}
 use Rattle.hearing.proofs.hear_frame.Tie as tie
 

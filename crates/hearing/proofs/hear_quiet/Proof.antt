@@ -1,5 +1,5 @@
 use borrow.Author.Tests.{eq-eqb, ne-eqb}
-use Rattle.rules.specs.Hearing.{hearQuiet}
+use Rattle.rules.specs.Definitions.Hearing.{hearQuiet}
 use Rattle.hearing.proofs.hear_quiet.Statement.{statement}
 use Rattle.hearing.proofs.hear_quiet.Tie as tie
 

@@ -1,5 +1,5 @@
 use borrow.Author.Tests.{eq-eqb, ne-eqb}
-use Rattle.rules.specs.Hearing.{hearStart}
+use Rattle.rules.specs.Definitions.Hearing.{hearStart}
 use Rattle.hearing.proofs.hear_start.Statement.{statement}
 use Rattle.hearing.proofs.hear_start.Tie as tie
 

@@ -1,5 +1,5 @@
 use borrow.Author.Needs.{needs}
-use Rattle.rules.specs.Hearing.{receiverLevel, receiverIn}
+use Rattle.rules.specs.Definitions.Hearing.{receiverLevel, receiverIn}
 use Rattle.hearing.proofs.receiver_level.Statement.{statement}
 use Rattle.hearing.proofs.receiver_level.Tie as tie
 

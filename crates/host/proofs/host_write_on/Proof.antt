@@ -1,7 +1,7 @@
 use borrow.Author.Tests.{lt-ltb, le-ltb}
-use Rattle.rules.specs.Answers.{answerLent, number, refusedBy, valueOf}
-use Rattle.rules.specs.Run.{hostWrite, accept, refuse}
-use Rattle.rules.specs.Host.{accessRefused, writeRefused}
+use Rattle.rules.specs.Definitions.Answers.{answerLent, number, refusedBy, valueOf}
+use Rattle.rules.specs.Definitions.Run.{hostWrite, accept, refuse}
+use Rattle.rules.specs.Definitions.Host.{accessRefused, writeRefused}
 use Rattle.host.proofs.host_write_on.Statement.{statement}
 use Rattle.host.proofs.host_write_on.Tie as tie
 

@@ -1,6 +1,6 @@
-use Rattle.rules.specs.Answers.{answerLent, number, refusedBy, valueOf}
-use Rattle.rules.specs.Run.{pinReset, accept, refuse}
-use Rattle.rules.specs.Host.{resetAll}
+use Rattle.rules.specs.Definitions.Answers.{answerLent, number, refusedBy, valueOf}
+use Rattle.rules.specs.Definitions.Run.{pinReset, accept, refuse}
+use Rattle.rules.specs.Definitions.Host.{resetAll}
 use Rattle.host.proofs.pin_reset_on.Statement.{statement}
 use Rattle.host.proofs.pin_reset_on.Tie as tie
 

@@ -1,8 +1,8 @@
 use borrow.Author.Needs.{needs}
 use borrow.Author.Tests.{lt-ltb, le-ltb}
-use Rattle.rules.specs.Answers.{answerLent, number, refusedBy, valueOf}
-use Rattle.rules.specs.Host.{writeRefused, written, resetAll}
-use Rattle.rules.specs.Run.{accept, refuse}
+use Rattle.rules.specs.Definitions.Answers.{answerLent, number, refusedBy, valueOf}
+use Rattle.rules.specs.Definitions.Host.{writeRefused, written, resetAll}
+use Rattle.rules.specs.Definitions.Run.{accept, refuse}
 use Rattle.host.proofs.write_on.Statement.{statement}
 use Rattle.host.proofs.write_on.Tie as tie
 

@@ -1,5 +1,5 @@
 use borrow.Author.Needs.{needs}
-use Rattle.rules.specs.Host.{byteRead}
+use Rattle.rules.specs.Definitions.Host.{byteRead}
 use Rattle.host_read.proofs.byte_read.Statement.{statement}
 use Rattle.host_read.proofs.byte_read.Tie as tie
 

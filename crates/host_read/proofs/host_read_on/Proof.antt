@@ -1,7 +1,7 @@
 use borrow.Author.Tests.{lt-ltb, le-ltb}
-use Rattle.rules.specs.Answers.{answerLent, number, refusedBy, valueOf}
-use Rattle.rules.specs.Run.{hostRead, accept, refuse}
-use Rattle.rules.specs.Host.{accessRefused, readRefused}
+use Rattle.rules.specs.Definitions.Answers.{answerLent, number, refusedBy, valueOf}
+use Rattle.rules.specs.Definitions.Run.{hostRead, accept, refuse}
+use Rattle.rules.specs.Definitions.Host.{accessRefused, readRefused}
 use Rattle.host_read.proofs.host_read_on.Statement.{statement}
 use Rattle.host_read.proofs.host_read_on.Tie as tie
 

@@ -1,4 +1,4 @@
-use Rattle.rules.specs.Host.{lineStatusOf}
+use Rattle.rules.specs.Definitions.Host.{lineStatusOf}
 use Rattle.host_read.proofs.line_status_of.Statement.{statement}
 use Rattle.host_read.proofs.line_status_of.Tie as tie
 

@@ -1,6 +1,6 @@
-use Rattle.rules.specs.Answers.{answerLent, number, refusedBy, valueOf}
-use Rattle.rules.specs.Host.{readRefused, byteRead}
-use Rattle.rules.specs.Run.{accept, refuse}
+use Rattle.rules.specs.Definitions.Answers.{answerLent, number, refusedBy, valueOf}
+use Rattle.rules.specs.Definitions.Host.{readRefused, byteRead}
+use Rattle.rules.specs.Definitions.Run.{accept, refuse}
 use Rattle.host_read.proofs.read_on.Statement.{statement}
 use Rattle.host_read.proofs.read_on.Tie as tie
 

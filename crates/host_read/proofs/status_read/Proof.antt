@@ -1,5 +1,5 @@
 use borrow.Author.Tests.{eq-eqb, ne-eqb}
-use Rattle.rules.specs.Host.{statusRead}
+use Rattle.rules.specs.Definitions.Host.{statusRead}
 use Rattle.host_read.proofs.status_read.Statement.{statement}
 use Rattle.host_read.proofs.status_read.Tie as tie
 

@@ -1,5 +1,5 @@
 use borrow.Author.Needs.{needs}
-use Rattle.rules.specs.Slots.{delivers}
+use Rattle.rules.specs.Definitions.Slots.{delivers}
 use Rattle.judging.proofs.delivers.Statement.{statement}
 use Rattle.judging.proofs.delivers.Tie as tie
 

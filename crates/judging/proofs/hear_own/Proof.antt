@@ -1,4 +1,4 @@
-use Rattle.rules.specs.Service.{hearOwn}
+use Rattle.rules.specs.Definitions.Service.{hearOwn}
 use Rattle.judging.proofs.hear_own.Statement.{statement}
 use Rattle.judging.proofs.hear_own.Tie as tie
 

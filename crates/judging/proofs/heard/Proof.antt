@@ -1,6 +1,6 @@
 use mathlib.Core.Path.{_∙_}
-use Rattle.rules.specs.Slots.{heard, heardAs}
-use Rattle.rules.specs.Service.{roleOf}
+use Rattle.rules.specs.Definitions.Slots.{heard, heardAs}
+use Rattle.rules.specs.Definitions.Service.{roleOf}
 use Rattle.judging.proofs.heard.Statement.{statement}
 use Rattle.judging.proofs.heard.Tie as tie
 

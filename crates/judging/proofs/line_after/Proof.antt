@@ -1,5 +1,5 @@
 use borrow.Author.Needs.{needs}
-use Rattle.rules.specs.Hearing.{lineAfter}
+use Rattle.rules.specs.Definitions.Hearing.{lineAfter}
 use Rattle.judging.proofs.line_after.Statement.{statement}
 use Rattle.judging.proofs.line_after.Tie as tie
 

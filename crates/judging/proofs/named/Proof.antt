@@ -1,5 +1,5 @@
 use borrow.Author.Needs.{needs}
-use Rattle.rules.specs.Reception.{named}
+use Rattle.rules.specs.Definitions.Reception.{named}
 use Rattle.judging.proofs.named.Statement.{statement}
 use Rattle.judging.proofs.named.Tie as tie
 

@@ -1,5 +1,5 @@
 use borrow.Author.Needs.{needs}
-use Rattle.rules.specs.Hearing.{receptionAfter}
+use Rattle.rules.specs.Definitions.Hearing.{receptionAfter}
 use Rattle.judging.proofs.reception_after.Statement.{statement}
 use Rattle.judging.proofs.reception_after.Tie as tie
 

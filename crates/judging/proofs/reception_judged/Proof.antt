@@ -1,4 +1,4 @@
-use Rattle.rules.specs.Slots.{receptionJudged}
+use Rattle.rules.specs.Definitions.Slots.{receptionJudged}
 use Rattle.judging.proofs.reception_judged.Statement.{statement}
 use Rattle.judging.proofs.reception_judged.Tie as tie
 

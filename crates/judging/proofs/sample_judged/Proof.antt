@@ -1,6 +1,6 @@
 use mathlib.Core.Path.{_∙_}
-use Rattle.rules.specs.Slots.{memoryJudged, coreJudged, reportAfter, ending, serviceJudged}
-use Rattle.rules.specs.Service.{withEffort}
+use Rattle.rules.specs.Definitions.Slots.{memoryJudged, coreJudged, reportAfter, ending, serviceJudged}
+use Rattle.rules.specs.Definitions.Service.{withEffort}
 use Rattle.judging.specs.Ordinary.{memoryAfter, coreAfter, reportOf}
 use Rattle.judging.proofs.sample_judged.Statement.{statement}
 use Rattle.judging.proofs.sample_judged.Tie as tie

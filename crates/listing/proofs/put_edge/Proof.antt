@@ -1,7 +1,7 @@
 use native.Mathlib.Omega.{arith}
 use borrow.Author.Needs.{needs}
 use Rattle.listing.proofs.Puts.{fits, held, short}
-use Rattle.listing.specs.Laws.{joined, ended}
+use Rattle.listing.proofs.Laws.{joined, ended}
 use Rattle.listing.proofs.put_edge.Statement.{statement}
 use Rattle.listing.proofs.put_edge.Tie as tie
 

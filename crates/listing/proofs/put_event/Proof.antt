@@ -1,6 +1,6 @@
 use native.Mathlib.Omega.{arith}
 use borrow.Author.Needs.{needs}
-use Rattle.listing.specs.Laws.{joined}
+use Rattle.listing.proofs.Laws.{joined}
 use Rattle.listing.specs.Listing.{eventText}
 use Rattle.listing.proofs.put_event.Statement.{statement}
 use Rattle.listing.proofs.put_event.Tie as tie

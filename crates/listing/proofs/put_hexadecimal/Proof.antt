@@ -1,6 +1,6 @@
 use native.Mathlib.Omega.{arith}
 use borrow.Author.Needs.{needs}
-use Rattle.listing.specs.Laws.{hexadecimal-two}
+use Rattle.listing.proofs.Laws.{hexadecimal-two}
 use Rattle.listing.proofs.Puts.{three, four}
 use Rattle.listing.proofs.put_hexadecimal.Statement.{statement}
 use Rattle.listing.proofs.put_hexadecimal.Tie as tie

@@ -1,7 +1,7 @@
 use native.Mathlib.Omega.{arith}
 use borrow.Author.Needs.{needs}
 use Rattle.listing.proofs.Puts.{fits, held, short}
-use Rattle.listing.specs.Laws.{joined}
+use Rattle.listing.proofs.Laws.{joined}
 use Rattle.listing.specs.Listing.{line}
 use Rattle.listing.proofs.put_line.Statement.{statement}
 use Rattle.listing.proofs.put_line.Tie as tie

@@ -1,5 +1,5 @@
 use borrow.Author.Needs.{needs}
-use Rattle.rules.specs.Mailbox.{markedCher}
+use Rattle.rules.specs.Definitions.Mailbox.{markedCher}
 use Rattle.marks.proofs.mark_cher.Statement.{statement}
 use Rattle.marks.proofs.mark_cher.Tie as tie
 

@@ -1,5 +1,5 @@
 use borrow.Author.Needs.{needs}
-use Rattle.rules.specs.Mailbox.{markedChrx}
+use Rattle.rules.specs.Definitions.Mailbox.{markedChrx}
 use Rattle.marks.proofs.mark_chrx.Statement.{statement}
 use Rattle.marks.proofs.mark_chrx.Tie as tie
 

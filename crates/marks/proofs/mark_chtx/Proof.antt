@@ -1,5 +1,5 @@
 use borrow.Author.Needs.{needs}
-use Rattle.rules.specs.Mailbox.{markedChtx}
+use Rattle.rules.specs.Definitions.Mailbox.{markedChtx}
 use Rattle.marks.proofs.mark_chtx.Statement.{statement}
 use Rattle.marks.proofs.mark_chtx.Tie as tie
 

@@ -1,5 +1,5 @@
 use borrow.Author.Needs.{needs}
-use Rattle.rules.specs.Mailbox.{retagged}
+use Rattle.rules.specs.Definitions.Mailbox.{retagged}
 use Rattle.marks.proofs.retag.Statement.{statement}
 use Rattle.marks.proofs.retag.Tie as tie
 

@@ -1,6 +1,6 @@
 use borrow.Author.Needs.{needs}
 use mathlib.Core.Path.{refl}
-use Rattle.rules.specs.Channels.{withCher}
+use Rattle.rules.specs.Definitions.Channels.{withCher}
 use Rattle.marks.proofs.with_cher.Statement.{statement}
 use Rattle.marks.proofs.with_cher.Tie as tie
 

@@ -1,6 +1,6 @@
 use borrow.Author.Needs.{needs}
 use mathlib.Core.Path.{refl}
-use Rattle.rules.specs.Channels.{withChrx}
+use Rattle.rules.specs.Definitions.Channels.{withChrx}
 use Rattle.marks.proofs.with_chrx.Statement.{statement}
 use Rattle.marks.proofs.with_chrx.Tie as tie
 

@@ -1,6 +1,6 @@
 use borrow.Author.Needs.{needs}
 use mathlib.Core.Path.{refl}
-use Rattle.rules.specs.Channels.{withChtx}
+use Rattle.rules.specs.Definitions.Channels.{withChtx}
 use Rattle.marks.proofs.with_chtx.Statement.{statement}
 use Rattle.marks.proofs.with_chtx.Tie as tie
 

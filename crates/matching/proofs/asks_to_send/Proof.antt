@@ -1,4 +1,4 @@
-use Rattle.rules.specs.Channels.{asksToSend}
+use Rattle.rules.specs.Definitions.Channels.{asksToSend}
 use Rattle.matching.proofs.asks_to_send.Statement.{statement}
 use Rattle.matching.proofs.asks_to_send.Tie as tie
 

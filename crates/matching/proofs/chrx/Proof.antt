@@ -1,5 +1,5 @@
 use mathlib.Core.Path.{refl}
-use Rattle.rules.specs.Channels.{chrx}
+use Rattle.rules.specs.Definitions.Channels.{chrx}
 use Rattle.matching.proofs.chrx.Statement.{statement}
 use Rattle.matching.proofs.chrx.Tie as tie
 

@@ -1,5 +1,5 @@
 use mathlib.Core.Path.{refl}
-use Rattle.rules.specs.Channels.{chtx}
+use Rattle.rules.specs.Definitions.Channels.{chtx}
 use Rattle.matching.proofs.chtx.Statement.{statement}
 use Rattle.matching.proofs.chtx.Tie as tie
 

@@ -1,5 +1,5 @@
 use mathlib.Core.Path.{refl}
-use Rattle.rules.specs.Channels.{drak}
+use Rattle.rules.specs.Definitions.Channels.{drak}
 use Rattle.matching.proofs.drak.Statement.{statement}
 use Rattle.matching.proofs.drak.Tie as tie
 

@@ -1,4 +1,4 @@
-use Rattle.rules.specs.Channels.{listens}
+use Rattle.rules.specs.Definitions.Channels.{listens}
 use Rattle.matching.proofs.listens.Statement.{statement}
 use Rattle.matching.proofs.listens.Tie as tie
 

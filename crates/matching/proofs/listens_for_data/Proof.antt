@@ -1,4 +1,4 @@
-use Rattle.rules.specs.Channels.{listensForData}
+use Rattle.rules.specs.Definitions.Channels.{listensForData}
 use Rattle.matching.proofs.listens_for_data.Statement.{statement}
 use Rattle.matching.proofs.listens_for_data.Tie as tie
 

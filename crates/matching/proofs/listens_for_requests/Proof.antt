@@ -1,4 +1,4 @@
-use Rattle.rules.specs.Channels.{listensForRequests}
+use Rattle.rules.specs.Definitions.Channels.{listensForRequests}
 use Rattle.matching.proofs.listens_for_requests.Statement.{statement}
 use Rattle.matching.proofs.listens_for_requests.Tie as tie
 

@@ -1,7 +1,7 @@
 use Prim.Native.Nat.{_≤_, _-_}
 use mathlib.Core.Path.{_≡_, refl, sym, _∙_}
 use native.Mathlib.Omega.{arith}
-use Rattle.rules.specs.Channels.{lowest, takes, lowestListening}
+use Rattle.rules.specs.Definitions.Channels.{lowest, takes, lowestListening}
 use Rattle.matching.proofs.Lowest.{lowest-here, lowest-next, lowest-end}
 use Rattle.matching.proofs.lowest_listening.Statement.{statement}
 use Rattle.matching.proofs.lowest_listening.Tie as tie

@@ -1,4 +1,4 @@
-use Rattle.rules.specs.Channels.{ready}
+use Rattle.rules.specs.Definitions.Channels.{ready}
 use Rattle.matching.proofs.ready.Statement.{statement}
 use Rattle.matching.proofs.ready.Tie as tie
 

@@ -1,5 +1,5 @@
 use borrow.Author.Needs.{needs}
-use Rattle.rules.specs.Channels.{sendable}
+use Rattle.rules.specs.Definitions.Channels.{sendable}
 use Rattle.matching.proofs.sendable.Statement.{statement}
 use Rattle.matching.proofs.sendable.Tie as tie
 

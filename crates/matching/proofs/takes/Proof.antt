@@ -1,4 +1,4 @@
-use Rattle.rules.specs.Channels.{takes}
+use Rattle.rules.specs.Definitions.Channels.{takes}
 use Rattle.matching.proofs.takes.Statement.{statement}
 use Rattle.matching.proofs.takes.Tie as tie
 

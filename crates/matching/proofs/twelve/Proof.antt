@@ -1,6 +1,6 @@
 use borrow.Author.Needs.{needs}
 use mathlib.Core.Path.{refl}
-use Rattle.rules.specs.Channels.{twelve}
+use Rattle.rules.specs.Definitions.Channels.{twelve}
 use Rattle.matching.proofs.twelve.Statement.{statement}
 use Rattle.matching.proofs.twelve.Tie as tie
 

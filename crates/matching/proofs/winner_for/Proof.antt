@@ -1,4 +1,4 @@
-use Rattle.rules.specs.Channels.{winnerFor}
+use Rattle.rules.specs.Definitions.Channels.{winnerFor}
 use Rattle.matching.proofs.winner_for.Statement.{statement}
 use Rattle.matching.proofs.winner_for.Tie as tie
 

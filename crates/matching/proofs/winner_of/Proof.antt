@@ -1,4 +1,4 @@
-use Rattle.rules.specs.Channels.{winnerOf}
+use Rattle.rules.specs.Definitions.Channels.{winnerOf}
 use Rattle.matching.proofs.winner_of.Statement.{statement}
 use Rattle.matching.proofs.winner_of.Tie as tie
 

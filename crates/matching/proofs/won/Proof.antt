@@ -1,5 +1,5 @@
 use borrow.Author.Needs.{needs}
-use Rattle.rules.specs.Channels.{won}
+use Rattle.rules.specs.Definitions.Channels.{won}
 use Rattle.matching.proofs.won.Statement.{statement}
 use Rattle.matching.proofs.won.Tie as tie
 

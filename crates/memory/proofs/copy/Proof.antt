@@ -3,7 +3,7 @@ use native.Mathlib.Nat.{sub-zero}
 use mathlib.Core.Path.{_≡_, sym, _∙_}
 use native.Mathlib.Omega.{arith}
 use lib.Seq.{sets}
-use Rattle.rules.specs.Mailbox.{mailboxBytes}
+use Rattle.rules.specs.Definitions.Mailbox.{mailboxBytes}
 use Rattle.memory.proofs.Laying.{copy-next, copy-end}
 use Rattle.memory.proofs.copy.Statement.{statement}
 use Rattle.memory.proofs.copy.Tie as tie

@@ -1,7 +1,7 @@
 use borrow.Author.Needs.{needs}
 use native.Mathlib.Omega.{arith}
 use borrow.Author.Tests.{eq-eqb, ne-eqb}
-use Rattle.rules.specs.Mailbox.{dataIn}
+use Rattle.rules.specs.Definitions.Mailbox.{dataIn}
 use Rattle.memory.proofs.data_in.Statement.{statement}
 use Rattle.memory.proofs.data_in.Tie as tie
 

@@ -2,7 +2,7 @@ use Prim.Native.Nat.{_+_, _*_, _/_, _%_}
 use borrow.Author.Needs.{needs}
 use mathlib.Core.Path.{_≡_}
 use native.Mathlib.Omega.{arith}
-use Rattle.rules.specs.Channels.{twelve}
+use Rattle.rules.specs.Definitions.Channels.{twelve}
 use Rattle.memory.proofs.headed.Statement.{statement}
 use Rattle.memory.proofs.headed.Tie as tie
 

@@ -2,7 +2,7 @@ use Prim.Native.Nat.{_≤_, _-_, _+_}
 use mathlib.Core.Path.{_≡_, refl, sym, _∙_}
 use native.Mathlib.Omega.{arith}
 use lib.ListN.{length, drop}
-use Rattle.rules.specs.Mailbox.{laidFrom}
+use Rattle.rules.specs.Definitions.Mailbox.{laidFrom}
 use Rattle.memory.proofs.Laying.{lay-next, lay-end}
 use Rattle.memory.proofs.lay.Statement.{statement}
 use Rattle.memory.proofs.lay.Tie as tie

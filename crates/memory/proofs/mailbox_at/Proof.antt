@@ -1,7 +1,7 @@
 use borrow.Author.Needs.{needs}
 use native.Mathlib.Omega.{arith}
 use mathlib.Core.Path.{refl}
-use Rattle.rules.specs.Mailbox.{mailboxAt}
+use Rattle.rules.specs.Definitions.Mailbox.{mailboxAt}
 use Rattle.memory.proofs.mailbox_at.Statement.{statement}
 use Rattle.memory.proofs.mailbox_at.Tie as tie
 

@@ -1,6 +1,6 @@
 use borrow.Author.Needs.{needs}
 use mathlib.Core.Path.{refl}
-use Rattle.rules.specs.Mailbox.{statusByte}
+use Rattle.rules.specs.Definitions.Mailbox.{statusByte}
 use Rattle.memory.proofs.status_byte.Statement.{statement}
 use Rattle.memory.proofs.status_byte.Tie as tie
 

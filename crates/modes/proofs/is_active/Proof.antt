@@ -1,5 +1,5 @@
 use borrow.Author.Needs.{needs}
-use Rattle.rules.specs.State.{isActive}
+use Rattle.rules.specs.Definitions.State.{isActive}
 use Rattle.modes.proofs.is_active.Statement.{statement}
 use Rattle.modes.proofs.is_active.Tie as tie
 

@@ -1,5 +1,5 @@
 use borrow.Author.Needs.{needs}
-use Rattle.rules.specs.State.{isAsleep}
+use Rattle.rules.specs.Definitions.State.{isAsleep}
 use Rattle.modes.proofs.is_asleep.Statement.{statement}
 use Rattle.modes.proofs.is_asleep.Tie as tie
 

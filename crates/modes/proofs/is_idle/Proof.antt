@@ -1,5 +1,5 @@
 use borrow.Author.Needs.{needs}
-use Rattle.rules.specs.State.{isIdle}
+use Rattle.rules.specs.Definitions.State.{isIdle}
 use Rattle.modes.proofs.is_idle.Statement.{statement}
 use Rattle.modes.proofs.is_idle.Tie as tie
 

@@ -1,5 +1,5 @@
 use borrow.Author.Tests.{eq-eqb, ne-eqb}
-use Rattle.rules.specs.Reception.{behind}
+use Rattle.rules.specs.Definitions.Reception.{behind}
 use Rattle.place.proofs.behind.Statement.{statement}
 use Rattle.place.proofs.behind.Tie as tie
 

@@ -1,4 +1,4 @@
-use Rattle.rules.specs.Reception.{commandEnded}
+use Rattle.rules.specs.Definitions.Reception.{commandEnded}
 use Rattle.place.proofs.command_ended.Statement.{statement}
 use Rattle.place.proofs.command_ended.Tie as tie
 

@@ -1,5 +1,5 @@
 use borrow.Author.Needs.{needs}
-use Rattle.rules.specs.Reception.{inBody, isBody}
+use Rattle.rules.specs.Definitions.Reception.{inBody, isBody}
 use Rattle.place.proofs.in_body.Statement.{statement}
 use Rattle.place.proofs.in_body.Tie as tie
 

@@ -1,4 +1,4 @@
-use Rattle.rules.specs.Reception.{startEnded}
+use Rattle.rules.specs.Definitions.Reception.{startEnded}
 use Rattle.place.proofs.start_ended.Statement.{statement}
 use Rattle.place.proofs.start_ended.Tie as tie
 

@@ -1,5 +1,5 @@
 use borrow.Author.Needs.{needs}
-use Rattle.rules.specs.Reception.{underWay, isUnderWay}
+use Rattle.rules.specs.Definitions.Reception.{underWay, isUnderWay}
 use Rattle.place.proofs.under_way.Statement.{statement}
 use Rattle.place.proofs.under_way.Tie as tie
 

@@ -1,6 +1,6 @@
 use borrow.Author.Needs.{needs}
-use Rattle.rules.specs.Answers.{answerLent, refusedBy, valueOf}
-use Rattle.rules.specs.Run.{step, accept}
+use Rattle.rules.specs.Definitions.Answers.{answerLent, refusedBy, valueOf}
+use Rattle.rules.specs.Definitions.Run.{step, accept}
 use Rattle.bench_record.specs.Record.{answerTo}
 use Rattle.player.proofs.answer.Statement.{statement}
 use Rattle.player.proofs.answer.Tie as tie

@@ -2,7 +2,7 @@ use mathlib.Core.Path.{sym}
 use native.Mathlib.Omega.{arith}
 use borrow.Author.Needs.{needs}
 use lib.Seq.{length-take-le}
-use Rattle.bench_record.specs.Laws.{listed, unlisted, copied}
+use Rattle.bench_record.proofs.Laws.{listed, unlisted, copied}
 use Rattle.player.proofs.play_aside.Statement.{statement}
 use Rattle.player.proofs.play_aside.Tie as tie
 

@@ -1,7 +1,7 @@
 use native.Mathlib.Omega.{arith}
-use Rattle.bench_record.specs.Laws.{event-laid, event-next}
+use Rattle.bench_record.proofs.Laws.{event-laid, event-next}
 use Rattle.listing.specs.Listing.{line}
-use Rattle.listing.specs.Laws.{line-laid}
+use Rattle.listing.proofs.Laws.{line-laid}
 use Rattle.player.proofs.play_event.Statement.{statement}
 use Rattle.player.proofs.play_event.Tie as tie
 

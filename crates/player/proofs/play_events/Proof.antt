@@ -4,11 +4,11 @@ use borrow.Author.Needs.{needs}
 use Prim.Native.Nat.{_≤_, _-_, _+_, _*_}
 use lib.ListN.{length}
 use Rattle.session.specs.Reading.{eventsAt}
-use Rattle.rules.specs.Run.{fresh}
-use Rattle.rules.specs.Answers.{controller}
-use Rattle.listing.specs.Laws.{line-laid}
+use Rattle.rules.specs.Definitions.Run.{fresh}
+use Rattle.rules.specs.Definitions.Answers.{controller}
+use Rattle.listing.proofs.Laws.{line-laid}
 use Rattle.bench_record.specs.Record.{body}
-use Rattle.bench_record.specs.Laws.{Goes, begun, other-rest, first-rest, bad-line, bad-laid, stepped, last-line, laid-all}
+use Rattle.bench_record.proofs.Laws.{Goes, begun, other-rest, first-rest, bad-line, bad-laid, stepped, last-line, laid-all}
 use Rattle.player.proofs.Bytes.{step-fits}
 use Rattle.player.proofs.play_events.Statement.{statement}
 use Rattle.player.proofs.play_events.Tie as tie

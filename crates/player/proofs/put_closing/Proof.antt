@@ -1,7 +1,7 @@
 use native.Mathlib.Omega.{arith}
 use borrow.Author.Needs.{needs}
 use Rattle.bench_record.specs.Record.{closing}
-use Rattle.listing.specs.Laws.{line-laid}
+use Rattle.listing.proofs.Laws.{line-laid}
 use Rattle.player.proofs.put_closing.Statement.{statement}
 use Rattle.player.proofs.put_closing.Tie as tie
 

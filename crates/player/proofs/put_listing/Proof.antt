@@ -1,8 +1,8 @@
 use mathlib.Core.Path.{sym, _∙_}
 use native.Mathlib.Omega.{arith}
 use borrow.Author.Needs.{needs}
-use Rattle.listing.specs.Laws.{line-laid}
-use Rattle.bench_record.specs.Laws.{count-most, header-bad, header-good}
+use Rattle.listing.proofs.Laws.{line-laid}
+use Rattle.bench_record.proofs.Laws.{count-most, header-bad, header-good}
 use Rattle.player.proofs.put_listing.Statement.{statement}
 use Rattle.player.proofs.put_listing.Tie as tie
 

@@ -1,5 +1,5 @@
 use borrow.Author.Tests.{le-leb, lt-leb}
-use Rattle.rules.specs.State.{effortInRange}
+use Rattle.rules.specs.Definitions.State.{effortInRange}
 use Rattle.ranges.proofs.effort_in_range.Statement.{statement}
 use Rattle.ranges.proofs.effort_in_range.Tie as tie
 

@@ -1,4 +1,4 @@
-use Rattle.rules.specs.State.{inRange}
+use Rattle.rules.specs.Definitions.State.{inRange}
 use Rattle.ranges.proofs.in_range.Statement.{statement}
 use Rattle.ranges.proofs.in_range.Tie as tie
 

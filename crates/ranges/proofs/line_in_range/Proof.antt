@@ -1,5 +1,5 @@
 use mathlib.Core.Path.{refl}
-use Rattle.rules.specs.State.{lineInRange}
+use Rattle.rules.specs.Definitions.State.{lineInRange}
 use Rattle.ranges.proofs.line_in_range.Statement.{statement}
 use Rattle.ranges.proofs.line_in_range.Tie as tie
 

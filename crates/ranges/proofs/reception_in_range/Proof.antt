@@ -1,5 +1,5 @@
 use borrow.Author.Tests.{le-leb, lt-leb}
-use Rattle.rules.specs.State.{receptionInRange}
+use Rattle.rules.specs.Definitions.State.{receptionInRange}
 use Rattle.ranges.proofs.reception_in_range.Statement.{statement}
 use Rattle.ranges.proofs.reception_in_range.Tie as tie
 

@@ -1,4 +1,4 @@
-use Rattle.rules.specs.State.{reportInRange}
+use Rattle.rules.specs.Definitions.State.{reportInRange}
 use Rattle.ranges.proofs.report_in_range.Statement.{statement}
 use Rattle.ranges.proofs.report_in_range.Tie as tie
 

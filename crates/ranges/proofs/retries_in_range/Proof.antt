@@ -1,5 +1,5 @@
 use borrow.Author.Tests.{le-leb, lt-leb}
-use Rattle.rules.specs.State.{retriesInRange}
+use Rattle.rules.specs.Definitions.State.{retriesInRange}
 use Rattle.ranges.proofs.retries_in_range.Statement.{statement}
 use Rattle.ranges.proofs.retries_in_range.Tie as tie
 

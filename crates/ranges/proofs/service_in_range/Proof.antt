@@ -1,5 +1,5 @@
 use borrow.Author.Tests.{le-leb, lt-leb}
-use Rattle.rules.specs.State.{serviceInRange}
+use Rattle.rules.specs.Definitions.State.{serviceInRange}
 use Rattle.ranges.proofs.service_in_range.Statement.{statement}
 use Rattle.ranges.proofs.service_in_range.Tie as tie
 

@@ -1,5 +1,5 @@
 use borrow.Author.Tests.{le-leb, lt-leb}
-use Rattle.rules.specs.State.{winnerInRange}
+use Rattle.rules.specs.Definitions.State.{winnerInRange}
 use Rattle.ranges.proofs.winner_in_range.Statement.{statement}
 use Rattle.ranges.proofs.winner_in_range.Tie as tie
 

@@ -1,5 +1,5 @@
 use mathlib.Core.Path.{refl}
-use Rattle.rules.specs.Reception.{atPlace}
+use Rattle.rules.specs.Definitions.Reception.{atPlace}
 use Rattle.reception.proofs.at_place.Statement.{statement}
 use Rattle.reception.proofs.at_place.Tie as tie
 

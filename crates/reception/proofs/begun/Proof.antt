@@ -1,4 +1,4 @@
-use Rattle.rules.specs.Reception.{begun}
+use Rattle.rules.specs.Definitions.Reception.{begun}
 use Rattle.reception.proofs.begun.Statement.{statement}
 use Rattle.reception.proofs.begun.Tie as tie
 

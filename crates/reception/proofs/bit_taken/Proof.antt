@@ -1,5 +1,5 @@
 use borrow.Author.Needs.{needs}
-use Rattle.rules.specs.Reception.{bitTaken}
+use Rattle.rules.specs.Definitions.Reception.{bitTaken}
 use Rattle.reception.proofs.bit_taken.Statement.{statement}
 use Rattle.reception.proofs.bit_taken.Tie as tie
 

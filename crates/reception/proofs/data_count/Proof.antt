@@ -1,5 +1,5 @@
 use borrow.Author.Tests.{lt-ltb, le-ltb}
-use Rattle.rules.specs.Reception.{dataCount}
+use Rattle.rules.specs.Definitions.Reception.{dataCount}
 use Rattle.reception.proofs.data_count.Statement.{statement}
 use Rattle.reception.proofs.data_count.Tie as tie
 

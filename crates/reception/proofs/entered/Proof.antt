@@ -1,4 +1,4 @@
-use Rattle.rules.specs.Reception.{entered}
+use Rattle.rules.specs.Definitions.Reception.{entered}
 use Rattle.reception.proofs.entered.Statement.{statement}
 use Rattle.reception.proofs.entered.Tie as tie
 

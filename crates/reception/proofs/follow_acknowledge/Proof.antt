@@ -1,6 +1,6 @@
 use borrow.Author.Needs.{needs}
 use borrow.Author.Tests.{eq-eqb, ne-eqb}
-use Rattle.rules.specs.Reception.{followAcknowledge}
+use Rattle.rules.specs.Definitions.Reception.{followAcknowledge}
 use Rattle.reception.proofs.follow_acknowledge.Statement.{statement}
 use Rattle.reception.proofs.follow_acknowledge.Tie as tie
 

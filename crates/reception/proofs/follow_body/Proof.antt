@@ -1,6 +1,6 @@
 use borrow.Author.Needs.{needs}
 use borrow.Author.Tests.{lt-ltb, le-ltb, eq-eqb, ne-eqb}
-use Rattle.rules.specs.Reception.{followBody}
+use Rattle.rules.specs.Definitions.Reception.{followBody}
 use Rattle.reception.proofs.follow_body.Statement.{statement}
 use Rattle.reception.proofs.follow_body.Tie as tie
 

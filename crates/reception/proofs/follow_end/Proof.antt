@@ -1,6 +1,6 @@
 use borrow.Author.Needs.{needs}
 use borrow.Author.Tests.{lt-ltb, le-ltb}
-use Rattle.rules.specs.Reception.{followEnd}
+use Rattle.rules.specs.Definitions.Reception.{followEnd}
 use Rattle.reception.proofs.follow_end.Statement.{statement}
 use Rattle.reception.proofs.follow_end.Tie as tie
 

@@ -1,6 +1,6 @@
 use borrow.Author.Needs.{needs}
 use borrow.Author.Tests.{lt-ltb, le-ltb}
-use Rattle.rules.specs.Reception.{followStart}
+use Rattle.rules.specs.Definitions.Reception.{followStart}
 use Rattle.reception.proofs.follow_start.Statement.{statement}
 use Rattle.reception.proofs.follow_start.Tie as tie
 

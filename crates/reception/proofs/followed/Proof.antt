@@ -1,5 +1,5 @@
 use borrow.Author.Needs.{needs}
-use Rattle.rules.specs.Reception.{followed, followIn}
+use Rattle.rules.specs.Definitions.Reception.{followed, followIn}
 use Rattle.reception.proofs.followed.Statement.{statement}
 use Rattle.reception.proofs.followed.Tie as tie
 

@@ -1,6 +1,6 @@
 use borrow.Author.Needs.{needs}
 use borrow.Author.Tests.{lt-ltb, le-ltb}
-use Rattle.rules.specs.Reception.{moreNibbles}
+use Rattle.rules.specs.Definitions.Reception.{moreNibbles}
 use Rattle.reception.proofs.more_nibbles.Statement.{statement}
 use Rattle.reception.proofs.more_nibbles.Tie as tie
 

@@ -1,5 +1,5 @@
 use borrow.Author.Needs.{needs}
-use Rattle.rules.specs.Reception.{moved}
+use Rattle.rules.specs.Definitions.Reception.{moved}
 use Rattle.reception.proofs.moved.Statement.{statement}
 use Rattle.reception.proofs.moved.Tie as tie
 

@@ -1,4 +1,4 @@
-use Rattle.rules.specs.Reception.{nibbleTaken}
+use Rattle.rules.specs.Definitions.Reception.{nibbleTaken}
 use Rattle.reception.proofs.nibble_taken.Statement.{statement}
 use Rattle.reception.proofs.nibble_taken.Tie as tie
 

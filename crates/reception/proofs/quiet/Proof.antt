@@ -1,4 +1,4 @@
-use Rattle.rules.specs.Reception.{quiet}
+use Rattle.rules.specs.Definitions.Reception.{quiet}
 use Rattle.reception.proofs.quiet.Statement.{statement}
 use Rattle.reception.proofs.quiet.Tie as tie
 

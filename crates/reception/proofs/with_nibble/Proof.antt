@@ -1,6 +1,6 @@
 use borrow.Author.Needs.{needs}
 use borrow.Author.Tests.{eq-eqb, ne-eqb}
-use Rattle.rules.specs.Reception.{withNibble}
+use Rattle.rules.specs.Definitions.Reception.{withNibble}
 use Rattle.reception.proofs.with_nibble.Statement.{statement}
 use Rattle.reception.proofs.with_nibble.Tie as tie
 

@@ -1,5 +1,5 @@
 use mathlib.Core.Path.{refl}
-use Rattle.rules.specs.Reception.{withPlace}
+use Rattle.rules.specs.Definitions.Reception.{withPlace}
 use Rattle.reception.proofs.with_place.Statement.{statement}
 use Rattle.reception.proofs.with_place.Tie as tie
 

@@ -1,6 +1,6 @@
 use borrow.Author.Needs.{needs}
 use borrow.Author.Tests.{eq-eqb, ne-eqb}
-use Rattle.rules.specs.Registers.{inputLevel}
+use Rattle.rules.specs.Definitions.Registers.{inputLevel}
 use Rattle.registers.proofs.input_level.Statement.{statement}
 use Rattle.registers.proofs.input_level.Tie as tie
 

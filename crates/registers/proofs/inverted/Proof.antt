@@ -1,5 +1,5 @@
 use borrow.Author.Needs.{needs}
-use Rattle.rules.specs.Registers.{inverted}
+use Rattle.rules.specs.Definitions.Registers.{inverted}
 use Rattle.registers.proofs.inverted.Statement.{statement}
 use Rattle.registers.proofs.inverted.Tie as tie
 

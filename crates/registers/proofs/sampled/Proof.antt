@@ -1,4 +1,4 @@
-use Rattle.rules.specs.Registers.{sampled}
+use Rattle.rules.specs.Definitions.Registers.{sampled}
 use Rattle.registers.proofs.sampled.Statement.{statement}
 use Rattle.registers.proofs.sampled.Tie as tie
 

@@ -1,4 +1,4 @@
-use Rattle.rules.specs.Registers.{transmitted}
+use Rattle.rules.specs.Definitions.Registers.{transmitted}
 use Rattle.registers.proofs.transmitted.Statement.{statement}
 use Rattle.registers.proofs.transmitted.Tie as tie
 

@@ -1,5 +1,5 @@
 use mathlib.Core.Path.{refl}
-use Rattle.rules.specs.Service.{raiseTe}
+use Rattle.rules.specs.Definitions.Service.{raiseTe}
 use Rattle.reports.proofs.raise_te.Statement.{statement}
 use Rattle.reports.proofs.raise_te.Tie as tie
 

@@ -1,5 +1,5 @@
 use mathlib.Core.Path.{refl}
-use Rattle.rules.specs.Service.{raiseTok}
+use Rattle.rules.specs.Definitions.Service.{raiseTok}
 use Rattle.reports.proofs.raise_tok.Statement.{statement}
 use Rattle.reports.proofs.raise_tok.Tie as tie
 

@@ -1,5 +1,5 @@
 use borrow.Author.Needs.{needs}
-use Rattle.rules.specs.Delivery.{reportDelivered}
+use Rattle.rules.specs.Definitions.Delivery.{reportDelivered}
 use Rattle.reports.proofs.report_delivered.Statement.{statement}
 use Rattle.reports.proofs.report_delivered.Tie as tie
 

@@ -1,5 +1,5 @@
-use Rattle.rules.specs.Service.{reportEnded}
-use Rattle.rules.specs.Delivery.{withFlags, withMessage}
+use Rattle.rules.specs.Definitions.Service.{reportEnded}
+use Rattle.rules.specs.Definitions.Delivery.{withFlags, withMessage}
 use Rattle.reports.proofs.report_ended.Statement.{statement}
 use Rattle.reports.proofs.report_ended.Tie as tie
 

@@ -1,5 +1,5 @@
 use borrow.Author.Needs.{needs}
-use Rattle.rules.specs.Delivery.{reportHeard}
+use Rattle.rules.specs.Definitions.Delivery.{reportHeard}
 use Rattle.reports.proofs.report_heard.Statement.{statement}
 use Rattle.reports.proofs.report_heard.Tie as tie
 

@@ -1,4 +1,4 @@
-use Rattle.rules.specs.Service.{reportJudged}
+use Rattle.rules.specs.Definitions.Service.{reportJudged}
 use Rattle.reports.proofs.report_judged.Statement.{statement}
 use Rattle.reports.proofs.report_judged.Tie as tie
 

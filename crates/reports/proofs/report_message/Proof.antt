@@ -1,5 +1,5 @@
-use Rattle.rules.specs.Delivery.{withFlags, withMessage}
-use Rattle.rules.specs.Service.{retriesOf}
+use Rattle.rules.specs.Definitions.Delivery.{withFlags, withMessage}
+use Rattle.rules.specs.Definitions.Service.{retriesOf}
 use Rattle.reports.proofs.report_message.Statement.{statement}
 use Rattle.reports.proofs.report_message.Tie as tie
 

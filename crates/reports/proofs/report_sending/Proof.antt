@@ -1,5 +1,5 @@
-use Rattle.rules.specs.Service.{reportSending}
-use Rattle.rules.specs.Delivery.{withSending}
+use Rattle.rules.specs.Definitions.Service.{reportSending}
+use Rattle.rules.specs.Definitions.Delivery.{withSending}
 use Rattle.reports.proofs.report_sending.Statement.{statement}
 use Rattle.reports.proofs.report_sending.Tie as tie
 

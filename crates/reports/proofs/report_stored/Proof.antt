@@ -1,4 +1,4 @@
-use Rattle.rules.specs.Delivery.{reportStored, withFlags, withMessage, raiseRok, raiseRnok}
+use Rattle.rules.specs.Definitions.Delivery.{reportStored, withFlags, withMessage, raiseRok, raiseRnok}
 use Rattle.reports.proofs.report_stored.Statement.{statement}
 use Rattle.reports.proofs.report_stored.Tie as tie
 

@@ -1,6 +1,6 @@
 use borrow.Author.Needs.{needs}
 use borrow.Author.Tests.{lt-ltb, le-ltb}
-use Rattle.rules.specs.Service.{retriesOf}
+use Rattle.rules.specs.Definitions.Service.{retriesOf}
 use Rattle.reports.proofs.retries_of.Statement.{statement}
 use Rattle.reports.proofs.retries_of.Tie as tie
 

@@ -1,5 +1,5 @@
 use mathlib.Core.Path.{refl}
-use Rattle.rules.specs.Delivery.{withError}
+use Rattle.rules.specs.Definitions.Delivery.{withError}
 use Rattle.reports.proofs.with_error.Statement.{statement}
 use Rattle.reports.proofs.with_error.Tie as tie
 

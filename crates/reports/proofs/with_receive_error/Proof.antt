@@ -1,5 +1,5 @@
 use mathlib.Core.Path.{refl}
-use Rattle.rules.specs.Delivery.{withReceiveError, withFlags, raiseRe}
+use Rattle.rules.specs.Definitions.Delivery.{withReceiveError, withFlags, raiseRe}
 use Rattle.reports.proofs.with_receive_error.Statement.{statement}
 use Rattle.reports.proofs.with_receive_error.Tie as tie
 

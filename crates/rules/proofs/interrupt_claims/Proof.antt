@@ -1,4 +1,4 @@
-use Rattle.rules.specs.InterruptsRaised.{interrupts}
+use Rattle.rules.proofs.Interrupts.Raised.{interrupts}
 use Rattle.rules.proofs.interrupt_claims.Statement.{statement}
 use Rattle.rules.proofs.interrupt_claims.Tie as tie
 

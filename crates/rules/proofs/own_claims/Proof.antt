@@ -1,4 +1,4 @@
-use Rattle.rules.specs.OwnProof.{own-frames}
+use Rattle.rules.proofs.OwnFrames.EveryRun.{own-frames}
 use Rattle.rules.proofs.own_claims.Statement.{statement}
 use Rattle.rules.proofs.own_claims.Tie as tie
 

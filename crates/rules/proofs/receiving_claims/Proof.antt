@@ -1,6 +1,7 @@
-use Rattle.rules.specs.Claims.{receiving}
+use Rattle.rules.proofs.Receiving.Delivered.{delivery}
+use Rattle.rules.proofs.Runs.{driven, stored}
 use Rattle.rules.proofs.receiving_claims.Statement.{statement}
 use Rattle.rules.proofs.receiving_claims.Tie as tie
 
 pub receiving-claims-spec : {M : Type 1} → statement M
-receiving-claims-spec = tie.close (tie.spec (λ c. receiving))
+receiving-claims-spec = tie.close (tie.spec (λ c. record { kept = delivery; driven = driven; stored = stored }))

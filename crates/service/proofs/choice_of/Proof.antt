@@ -1,4 +1,4 @@
-use Rattle.rules.specs.Service.{choiceOf}
+use Rattle.rules.specs.Definitions.Service.{choiceOf}
 use Rattle.service.proofs.choice_of.Statement.{statement}
 use Rattle.service.proofs.choice_of.Tie as tie
 

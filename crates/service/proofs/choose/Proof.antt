@@ -1,4 +1,4 @@
-use Rattle.rules.specs.Service.{choose}
+use Rattle.rules.specs.Definitions.Service.{choose}
 use Rattle.service.proofs.choose.Statement.{statement}
 use Rattle.service.proofs.choose.Tie as tie
 

@@ -1,5 +1,5 @@
 use borrow.Author.Needs.{needs}
-use Rattle.rules.specs.Service.{chosen}
+use Rattle.rules.specs.Definitions.Service.{chosen}
 use Rattle.service.proofs.chosen.Statement.{statement}
 use Rattle.service.proofs.chosen.Tie as tie
 

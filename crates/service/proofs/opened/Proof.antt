@@ -1,5 +1,5 @@
-use Rattle.rules.specs.Service.{opened, withEffort}
-use Rattle.rules.specs.Attempt.{withProgress}
+use Rattle.rules.specs.Definitions.Service.{opened, withEffort}
+use Rattle.rules.specs.Definitions.Attempt.{withProgress}
 use Rattle.service.proofs.opened.Statement.{statement}
 use Rattle.service.proofs.opened.Tie as tie
 

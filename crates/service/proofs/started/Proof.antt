@@ -1,4 +1,4 @@
-use Rattle.rules.specs.Service.{started}
+use Rattle.rules.specs.Definitions.Service.{started}
 use Rattle.service.proofs.started.Statement.{statement}
 use Rattle.service.proofs.started.Tie as tie
 

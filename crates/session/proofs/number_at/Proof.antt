@@ -2,7 +2,7 @@ use borrow.Author.Needs.{needs}
 use native.Mathlib.Omega.{arith}
 use mathlib.Core.Path.{ap}
 use borrow.Author.Tests.{ne-eqb}
-use Rattle.number.specs.Number.Refusal.{TooLarge}
+use Rattle.leb128.specs.Number.Refusal.{TooLarge}
 use Rattle.session.specs.Reading.{refusal}
 use Rattle.session.proofs.Laws.{past-end, one-group, rest-within, found, refused, named}
 use Rattle.session.proofs.number_at.Statement.{statement}

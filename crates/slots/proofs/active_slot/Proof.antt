@@ -1,5 +1,5 @@
 use borrow.Author.Needs.{needs}
-use Rattle.rules.specs.Slots.{activeSlot, sampleOf}
+use Rattle.rules.specs.Definitions.Slots.{activeSlot, sampleOf}
 use Rattle.slots.proofs.active_slot.Statement.{statement}
 use Rattle.slots.proofs.active_slot.Tie as tie
 

@@ -1,6 +1,6 @@
 use borrow.Author.Needs.{needs}
-use Rattle.rules.specs.Answers.{answerLent, refusedBy, valueOf, number}
-use Rattle.rules.specs.Run.{accept}
+use Rattle.rules.specs.Definitions.Answers.{answerLent, refusedBy, valueOf, number}
+use Rattle.rules.specs.Definitions.Run.{accept}
 use Rattle.slots.proofs.answered.Statement.{statement}
 use Rattle.slots.proofs.answered.Tie as tie
 

@@ -1,5 +1,5 @@
-use Rattle.rules.specs.Slots.{choiceMade}
-use Rattle.rules.specs.State.{withService, withReport}
+use Rattle.rules.specs.Definitions.Slots.{choiceMade}
+use Rattle.rules.specs.Definitions.State.{withService, withReport}
 use Rattle.slots.proofs.choice_made.Statement.{statement}
 use Rattle.slots.proofs.choice_made.Tie as tie
 

@@ -1,4 +1,4 @@
-use Rattle.rules.specs.Slots.{chooses}
+use Rattle.rules.specs.Definitions.Slots.{chooses}
 use Rattle.slots.proofs.chooses.Statement.{statement}
 use Rattle.slots.proofs.chooses.Tie as tie
 

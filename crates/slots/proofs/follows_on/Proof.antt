@@ -1,5 +1,5 @@
 use mathlib.Core.Path.{sym, _∙_}
-use Rattle.rules.specs.Slots.{followsOn}
+use Rattle.rules.specs.Definitions.Slots.{followsOn}
 use Rattle.slots.proofs.Ways.{nothing-follows}
 use Rattle.slots.proofs.follows_on.Statement.{statement}
 use Rattle.slots.proofs.follows_on.Tie as tie

@@ -1,4 +1,4 @@
-use Rattle.rules.specs.Service.{roleOf}
+use Rattle.rules.specs.Definitions.Service.{roleOf}
 use Rattle.slots.proofs.role_of.Statement.{statement}
 use Rattle.slots.proofs.role_of.Tie as tie
 

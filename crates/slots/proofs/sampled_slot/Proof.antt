@@ -1,4 +1,4 @@
-use Rattle.rules.specs.Slots.{sampledSlot, judgedSlot}
+use Rattle.rules.specs.Definitions.Slots.{sampledSlot, judgedSlot}
 use Rattle.judging.specs.Ordinary.{memoryAfter, coreAfter}
 use Rattle.slots.proofs.sampled_slot.Statement.{statement}
 use Rattle.slots.proofs.sampled_slot.Tie as tie

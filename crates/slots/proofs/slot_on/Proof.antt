@@ -1,7 +1,7 @@
 use mathlib.Core.Path.{_∙_, ap}
 use borrow.Author.Tests.{lt-ltb, le-ltb}
-use Rattle.rules.specs.Answers.{answerLent, number, refusedBy, valueOf}
-use Rattle.rules.specs.Run.{slot, refuse, restedSlot, answered}
+use Rattle.rules.specs.Definitions.Answers.{answerLent, number, refusedBy, valueOf}
+use Rattle.rules.specs.Definitions.Run.{slot, refuse, restedSlot, answered}
 use Rattle.slots.proofs.Ways.{answered-is}
 use Rattle.slots.proofs.slot_on.Statement.{statement}
 use Rattle.slots.proofs.slot_on.Tie as tie

@@ -1,6 +1,6 @@
 use borrow.Author.Needs.{needs}
-use Rattle.rules.specs.Slots.{startMade}
-use Rattle.rules.specs.State.{withService}
+use Rattle.rules.specs.Definitions.Slots.{startMade}
+use Rattle.rules.specs.Definitions.State.{withService}
 use Rattle.slots.proofs.start_made.Statement.{statement}
 use Rattle.slots.proofs.start_made.Tie as tie
 

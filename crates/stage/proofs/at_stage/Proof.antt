@@ -1,5 +1,5 @@
 use mathlib.Core.Path.{refl}
-use Rattle.rules.specs.Attempt.{atStage}
+use Rattle.rules.specs.Definitions.Attempt.{atStage}
 use Rattle.stage.proofs.at_stage.Statement.{statement}
 use Rattle.stage.proofs.at_stage.Tie as tie
 

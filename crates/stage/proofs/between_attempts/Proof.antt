@@ -1,4 +1,4 @@
-use Rattle.rules.specs.Attempt.{isBetween, betweenAttempts}
+use Rattle.rules.specs.Definitions.Attempt.{isBetween, betweenAttempts}
 use Rattle.stage.proofs.between_attempts.Statement.{statement}
 use Rattle.stage.proofs.between_attempts.Tie as tie
 

@@ -1,4 +1,4 @@
-use Rattle.rules.specs.Attempt.{isDriving, drivesFrame}
+use Rattle.rules.specs.Definitions.Attempt.{isDriving, drivesFrame}
 use Rattle.stage.proofs.drives_frame.Statement.{statement}
 use Rattle.stage.proofs.drives_frame.Tie as tie
 

@@ -1,4 +1,4 @@
-use Rattle.rules.specs.Attempt.{isServing, inService}
+use Rattle.rules.specs.Definitions.Attempt.{isServing, inService}
 use Rattle.stage.proofs.in_service.Statement.{statement}
 use Rattle.stage.proofs.in_service.Tie as tie
 

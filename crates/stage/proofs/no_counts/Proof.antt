@@ -1,5 +1,5 @@
 use mathlib.Core.Path.{refl}
-use Rattle.rules.specs.Attempt.{noCounts}
+use Rattle.rules.specs.Definitions.Attempt.{noCounts}
 use Rattle.stage.proofs.no_counts.Statement.{statement}
 use Rattle.stage.proofs.no_counts.Tie as tie
 

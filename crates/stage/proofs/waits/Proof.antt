@@ -1,4 +1,4 @@
-use Rattle.rules.specs.Attempt.{isWaiting, waits}
+use Rattle.rules.specs.Definitions.Attempt.{isWaiting, waits}
 use Rattle.stage.proofs.waits.Statement.{statement}
 use Rattle.stage.proofs.waits.Tie as tie
 

@@ -1,4 +1,4 @@
-use Rattle.rules.specs.State.{idleDue}
+use Rattle.rules.specs.Definitions.State.{idleDue}
 use Rattle.state.proofs.idle_due.Statement.{statement}
 use Rattle.state.proofs.idle_due.Tie as tie
 

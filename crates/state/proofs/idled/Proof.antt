@@ -1,4 +1,4 @@
-use Rattle.rules.specs.State.{idled}
+use Rattle.rules.specs.Definitions.State.{idled}
 use Rattle.state.proofs.idled.Statement.{statement}
 use Rattle.state.proofs.idled.Tie as tie
 

@@ -1,5 +1,5 @@
 use mathlib.Core.Path.{refl}
-use Rattle.rules.specs.State.{inMode}
+use Rattle.rules.specs.Definitions.State.{inMode}
 use Rattle.state.proofs.in_mode.Statement.{statement}
 use Rattle.state.proofs.in_mode.Tie as tie
 

@@ -1,4 +1,4 @@
-use Rattle.rules.specs.State.{resetCore}
+use Rattle.rules.specs.Definitions.State.{resetCore}
 use Rattle.state.proofs.reset_core.Statement.{statement}
 use Rattle.state.proofs.reset_core.Tie as tie
 

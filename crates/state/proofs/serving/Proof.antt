@@ -1,4 +1,4 @@
-use Rattle.rules.specs.State.{serving}
+use Rattle.rules.specs.Definitions.State.{serving}
 use Rattle.state.proofs.serving.Statement.{statement}
 use Rattle.state.proofs.serving.Tie as tie
 

@@ -1,4 +1,4 @@
-use Rattle.rules.specs.Registers.{asserted}
+use Rattle.rules.specs.Definitions.Registers.{asserted}
 use Rattle.status.proofs.asserted.Statement.{statement}
 use Rattle.status.proofs.asserted.Tie as tie
 

@@ -1,5 +1,5 @@
 use native.Mathlib.Omega.{arith}
-use Rattle.rules.specs.Registers.{bit}
+use Rattle.rules.specs.Definitions.Registers.{bit}
 use Rattle.status.proofs.bit.Statement.{statement}
 use Rattle.status.proofs.bit.Tie as tie
 

@@ -1,4 +1,4 @@
-use Rattle.rules.specs.Registers.{cleared}
+use Rattle.rules.specs.Definitions.Registers.{cleared}
 use Rattle.status.proofs.cleared.Statement.{statement}
 use Rattle.status.proofs.cleared.Tie as tie
 

@@ -1,5 +1,5 @@
 use borrow.Author.Needs.{needs}
-use Rattle.rules.specs.Host.{interruptLine}
+use Rattle.rules.specs.Definitions.Host.{interruptLine}
 use Rattle.status.proofs.interrupt.Statement.{statement}
 use Rattle.status.proofs.interrupt.Tie as tie
 

@@ -1,5 +1,5 @@
 use borrow.Author.Needs.{needs}
-use Rattle.rules.specs.Registers.{interruptStatus}
+use Rattle.rules.specs.Definitions.Registers.{interruptStatus}
 use Rattle.status.proofs.interrupt_status.Statement.{statement}
 use Rattle.status.proofs.interrupt_status.Tie as tie
 

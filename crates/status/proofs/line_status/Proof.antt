@@ -1,5 +1,5 @@
 use borrow.Author.Needs.{needs}
-use Rattle.rules.specs.Registers.{lineStatus}
+use Rattle.rules.specs.Definitions.Registers.{lineStatus}
 use Rattle.status.proofs.line_status.Statement.{statement}
 use Rattle.status.proofs.line_status.Tie as tie
 

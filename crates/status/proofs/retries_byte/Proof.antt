@@ -1,6 +1,6 @@
 use borrow.Author.Needs.{needs}
 use mathlib.Core.Path.{refl}
-use Rattle.rules.specs.Registers.{retriesByte}
+use Rattle.rules.specs.Definitions.Registers.{retriesByte}
 use Rattle.status.proofs.retries_byte.Statement.{statement}
 use Rattle.status.proofs.retries_byte.Tie as tie
 

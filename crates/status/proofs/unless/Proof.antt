@@ -1,4 +1,4 @@
-use Rattle.rules.specs.Registers.{unless}
+use Rattle.rules.specs.Definitions.Registers.{unless}
 use Rattle.status.proofs.unless.Statement.{statement}
 use Rattle.status.proofs.unless.Tie as tie
 

@@ -1,5 +1,5 @@
 use mathlib.Core.Path.{refl}
-use Rattle.rules.specs.Registers.{asksReset, asksSleep, asksIdle, asksActivation, asksRearbitration}
+use Rattle.rules.specs.Definitions.Registers.{asksReset, asksSleep, asksIdle, asksActivation, asksRearbitration}
 use Rattle.registers.specs.Command.{asked}
 use Rattle.registers.proofs.Map.asked.Statement.{statement}
 use Rattle.registers.proofs.Map.asked.Tie as tie

@@ -1,5 +1,5 @@
 use mathlib.Core.Path.{refl}
-use Rattle.rules.specs.Registers.{autonomous}
+use Rattle.rules.specs.Definitions.Registers.{autonomous}
 use Rattle.registers.proofs.Map.autonomous.Statement.{statement}
 use Rattle.registers.proofs.Map.autonomous.Tie as tie
 

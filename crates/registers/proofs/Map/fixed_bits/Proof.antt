@@ -1,5 +1,5 @@
 use borrow.Author.Tests.{eq-eqb, ne-eqb}
-use Rattle.rules.specs.Registers.{fixedBits}
+use Rattle.rules.specs.Definitions.Registers.{fixedBits}
 use Rattle.registers.proofs.Masks.{field}
 use Rattle.registers.proofs.Map.fixed_bits.Statement.{statement}
 use Rattle.registers.proofs.Map.fixed_bits.Tie as tie

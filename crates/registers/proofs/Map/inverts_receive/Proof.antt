@@ -1,5 +1,5 @@
 use mathlib.Core.Path.{refl}
-use Rattle.rules.specs.Registers.{invertsReceive}
+use Rattle.rules.specs.Definitions.Registers.{invertsReceive}
 use Rattle.registers.proofs.Map.inverts_receive.Statement.{statement}
 use Rattle.registers.proofs.Map.inverts_receive.Tie as tie
 

@@ -1,5 +1,5 @@
 use mathlib.Core.Path.{refl}
-use Rattle.rules.specs.Registers.{invertsTransmit}
+use Rattle.rules.specs.Definitions.Registers.{invertsTransmit}
 use Rattle.registers.proofs.Map.inverts_transmit.Statement.{statement}
 use Rattle.registers.proofs.Map.inverts_transmit.Tie as tie
 

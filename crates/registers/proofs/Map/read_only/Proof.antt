@@ -1,5 +1,5 @@
 use borrow.Author.Tests.{eq-eqb, ne-eqb}
-use Rattle.rules.specs.Registers.{readOnly}
+use Rattle.rules.specs.Definitions.Registers.{readOnly}
 use Rattle.registers.proofs.Map.read_only.Statement.{statement}
 use Rattle.registers.proofs.Map.read_only.Tie as tie
 

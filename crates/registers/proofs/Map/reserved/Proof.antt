@@ -1,5 +1,5 @@
 use borrow.Author.Tests.{eq-eqb, ne-eqb}
-use Rattle.rules.specs.Registers.{reserved}
+use Rattle.rules.specs.Definitions.Registers.{reserved}
 use Rattle.registers.proofs.Map.reserved.Statement.{statement}
 use Rattle.registers.proofs.Map.reserved.Tie as tie
 

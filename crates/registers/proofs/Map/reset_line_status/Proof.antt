@@ -1,5 +1,5 @@
 use mathlib.Core.Path.{refl}
-use Rattle.rules.specs.Registers.{lineStatus, bit}
+use Rattle.rules.specs.Definitions.Registers.{lineStatus, bit}
 use Rattle.registers.proofs.Map.reset_line_status.Statement.{statement}
 use Rattle.registers.proofs.Map.reset_line_status.Tie as tie
 

@@ -1,6 +1,6 @@
 use borrow.Author.Needs.{needs}
 use mathlib.Core.Path.{refl}
-use Rattle.rules.specs.Mailbox.{resetMemory}
+use Rattle.rules.specs.Definitions.Mailbox.{resetMemory}
 use Rattle.registers.proofs.Map.reset_memory.Statement.{statement}
 use Rattle.registers.proofs.Map.reset_memory.Tie as tie
 

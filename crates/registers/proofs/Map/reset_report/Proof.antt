@@ -1,5 +1,5 @@
 use mathlib.Core.Path.{refl}
-use Rattle.rules.specs.Registers.{resetReport}
+use Rattle.rules.specs.Definitions.Registers.{resetReport}
 use Rattle.registers.proofs.Map.reset_report.Statement.{statement}
 use Rattle.registers.proofs.Map.reset_report.Tie as tie
 

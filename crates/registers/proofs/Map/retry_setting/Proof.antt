@@ -1,5 +1,5 @@
 use mathlib.Core.Path.{refl}
-use Rattle.rules.specs.Registers.{retrySetting}
+use Rattle.rules.specs.Definitions.Registers.{retrySetting}
 use Rattle.registers.proofs.Map.retry_setting.Statement.{statement}
 use Rattle.registers.proofs.Map.retry_setting.Tie as tie
 

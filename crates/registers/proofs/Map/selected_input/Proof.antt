@@ -1,5 +1,5 @@
 use borrow.Author.Tests.{eq-eqb, ne-eqb}
-use Rattle.rules.specs.Registers.{selectedInput}
+use Rattle.rules.specs.Definitions.Registers.{selectedInput}
 use Rattle.registers.proofs.Map.selected_input.Statement.{statement}
 use Rattle.registers.proofs.Map.selected_input.Tie as tie
 

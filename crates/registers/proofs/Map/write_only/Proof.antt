@@ -1,5 +1,5 @@
 use borrow.Author.Tests.{eq-eqb, ne-eqb}
-use Rattle.rules.specs.Registers.{writeOnly}
+use Rattle.rules.specs.Definitions.Registers.{writeOnly}
 use Rattle.registers.proofs.Map.write_only.Statement.{statement}
 use Rattle.registers.proofs.Map.write_only.Tie as tie
 

@@ -1,0 +1,4 @@
+pub mod RefusalNumbers
+pub mod Places
+pub mod Agree
+pub mod Decoded

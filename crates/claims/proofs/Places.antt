@@ -1,0 +1,196 @@
+-- Which channel takes a frame, and where its bytes go: laws of Channels.winnerFor and Delivered.received.
+use Prim.Native.Nat.{ℕ, zero, suc, _+_, _%_, _≤_, _<_}
+use mathlib.Core.Bool.{Bool, true, false, false≢true}
+use mathlib.Core.List.{List, [], _∷_}
+use mathlib.Core.Path.{_≡_, refl, sym, _∙_, ap}
+use native.Mathlib.Nat.{zero-add}
+use native.Mathlib.Omega.{arith}
+use borrow.Author.Tests.{lt-ltb, le-ltb, eqb-true, eqb-false}
+use lib.Dec.{eqb}
+use lib.ListN.{length, getD, set, replicate, length-set}
+use lib.Seq.{getD-set-same, getD-set-other}
+use Rattle.line.specs.Bits.{pick}
+use Rattle.line.specs.Frame.{Frame, Fits}
+use Rattle.line.proofs.Laws.{picked}
+use Rattle.rules.specs.Definitions.Registers.{writeOnly}
+use Rattle.rules.specs.Definitions.Channels.{base, takes, nobody, winnerOf, lowest, lowestListening, won, winnerFor}
+use Rattle.rules.proofs.Matching.Lowest.{found}
+use Rattle.rules.specs.Definitions.Mailbox.{mailboxAt, statusByte, laidFrom, stored, retagged, markedCher, markedChtx, markedChrx, resetMemory}
+use Rattle.rules.specs.Statements.Valid.{high, low}
+use Rattle.rules.specs.Definitions.Delivery.{memoryStored, memoryDelivered}
+use Rattle.rules.specs.Definitions.Service.{memoryEnded}
+use Rattle.rules.specs.Definitions.Slots.{memoryJudged, judgedSlot, sampledSlot, activeSlot}
+use Rattle.rules.specs.Definitions.Host.{resetAll, resets, sleeps, keptByte, byteWritten, written}
+use Rattle.rules.specs.Definitions.Run.{fresh, refuse, accept, answered, restedSlot, next, after}
+use Rattle.rules.proofs.Steps.{Step, refusal, reset, wrote, gave, went, rested, step-of}
+use Rattle.rules.specs.Statements.Receiving.{storedFrame, received}
+use Rattle.rules.specs.declared.Choice.{Choice}
+use Rattle.rules.specs.declared.Choice.the-variants.{Nothing, Lowest}
+use Rattle.rules.specs.declared.Winner.{Winner}
+use Rattle.rules.specs.declared.Reception.{Reception}
+use Rattle.rules.specs.declared.Delivery.{Delivery}
+use Rattle.rules.specs.declared.Delivery.the-variants as effect
+use Rattle.rules.specs.declared.Ending.{Ending}
+use Rattle.rules.specs.declared.Ending.the-variants.{Going, Sent, Exhausted, Aborted, Rearbitrated}
+use Rattle.rules.specs.declared.Answer.{Answer}
+use Rattle.rules.specs.declared.Controller.{Controller}
+use Rattle.rules.specs.declared.Event.{Event}
+
+-- ---- who takes it
+
+none-found : (passes : ℕ → Bool) (left from : ℕ) → lowest passes left from ≡ Nothing → (k : ℕ) → from ≤ k → k < from + left → passes k ≡ false
+unfolding lowest
+none-found passes zero from e k a b = absurd (omega arith)
+none-found passes (suc left) from e k a b = go (passes from) refl e (none-found passes left (from + 1)) (eqb k from) refl
+  where
+    go : (p : Bool) → passes from ≡ p → pick p (Lowest from) (lowest passes left (from + 1)) ≡ Nothing
+        → (lowest passes left (from + 1) ≡ Nothing → (j : ℕ) → from + 1 ≤ j → j < from + 1 + left → passes j ≡ false)
+        → (q : Bool) → eqb k from ≡ q → passes k ≡ false
+    go true p h rest q z = absurd (let y : _≡_ {A = ℕ} 0 1 = cc in omega arith)
+    go false p h rest true z = let y : k ≡ from = eqb-true _ _ z in rw y p
+    go false p h rest false z = let y : k ≡ from → ⊥ = eqb-false _ _ z in rest h k (omega (arith, y)) (omega arith)
+
+module _ (m : List ℕ) (high low : ℕ) where
+  pub winner-lowest : winnerFor m high low .matched ≡ true
+      → (takes m (winnerFor m high low .channel) high low ≡ true) × ((k : ℕ) → k < winnerFor m high low .channel → takes m k high low ≡ false)
+  unfolding winnerFor lowestListening
+  winner-lowest = go (lowest (λ c. takes m c high low) 14 0) refl
+    where
+      go : (x : Choice) → lowest (λ c. takes m c high low) 14 0 ≡ x → won m x .matched ≡ true
+          → (takes m (won m x .channel) high low ≡ true) × ((k : ℕ) → k < won m x .channel → takes m k high low ≡ false)
+      go Nothing e h = absurd (false≢true (unfold won nobody in h))
+      go (Lowest c) e h = unfold won winnerOf in let f = found (λ c. takes m c high low) 14 0 c e in (f .0, λ k i. f .1 k (omega arith) i)
+
+  pub winner-none : winnerFor m high low .matched ≡ false → (k : ℕ) → k < 14 → takes m k high low ≡ false
+  unfolding winnerFor lowestListening
+  winner-none = go (lowest (λ c. takes m c high low) 14 0) refl
+    where
+      go : (x : Choice) → lowest (λ c. takes m c high low) 14 0 ≡ x → won m x .matched ≡ false → (k : ℕ) → k < 14 → takes m k high low ≡ false
+      go Nothing e h k i = none-found (λ c. takes m c high low) 14 0 e k (omega arith) (omega arith)
+      go (Lowest c) e h k i = absurd (false≢true (sym (unfold won winnerOf in h)))
+
+-- ---- bytes laid into the mailbox
+
+laid-other : (bs m : List ℕ) (p k a : ℕ) → ((j : ℕ) → j < length bs → a ≡ mailboxAt p (k + j) → ⊥) → getD (laidFrom m p k bs) a 0 ≡ getD m a 0
+unfolding laidFrom mailboxAt
+laid-other [] m p k a h = refl
+laid-other (b ∷ bs) m p k a h =
+    laid-other bs (set m (mailboxAt p k) b) p (k + 1) a (λ j i e. h (suc j) (omega arith) (omega arith))
+    ∙ getD-set-other m (mailboxAt p k) a b 0 (λ e. h 0 (omega arith) (omega arith))
+
+laid-same : (bs m : List ℕ) (p k : ℕ) → length m ≡ 256 → length bs ≤ 128 → (j : ℕ) → j < length bs → getD (laidFrom m p k bs) (mailboxAt p (k + j)) 0 ≡ getD bs j 0
+unfolding laidFrom
+laid-same [] m p k l n j h = absurd (omega arith)
+laid-same (b ∷ bs) m p k l n zero h =
+    let z : k + 0 ≡ k = omega arith in
+    rw z
+    (laid-other bs (set m (mailboxAt p k) b) p (k + 1) (mailboxAt p k) (λ j i e. unfold mailboxAt in omega arith)
+    ∙ getD-set-same m (mailboxAt p k) b 0 (unfold mailboxAt in omega arith))
+laid-same (b ∷ bs) m p k l n (suc j) h =
+    let e : k + suc j ≡ k + 1 + j = omega arith in
+    rw e (laid-same bs (set m (mailboxAt p k) b) p (k + 1) (length-set m (mailboxAt p k) b ∙ l) (omega arith) j (omega arith))
+
+-- ---- the frame
+
+module _ (m : List ℕ) (w : Winner) (f : Frame) where
+  pub no-winner : w .matched ≡ false → received m w f ≡ m
+  unfolding received
+  no-winner e = rw e
+
+  pub too-long : w .matched ≡ true → w .length ≤ length (f .bytes) → received m w f ≡ markedCher m (w .channel)
+  unfolding received
+  too-long e h = rw (e, le-ltb _ _ h)
+
+  received-fits : w .matched ≡ true → length (f .bytes) + 1 ≤ w .length → received m w f ≡ storedFrame m w f
+  unfolding received
+  received-fits e h = rw (e, lt-ltb (length (f .bytes)) (w .length) (omega arith))
+
+  -- the channel's own bytes are not the mailbox's
+  channel-bytes : (x : List ℕ) (a : ℕ) → (a ≡ base (w .channel) → ⊥) → (a ≡ base (w .channel) + 1 → ⊥) → (a ≡ base (w .channel) + 3 → ⊥)
+      → getD (markedChrx (retagged x (w .channel) (high f) (low f)) (w .channel)) a 0 ≡ getD x a 0
+  unfolding markedChrx retagged
+  channel-bytes x a h i j =
+      getD-set-other (retagged x (w .channel) (high f) (low f)) (base (w .channel) + 3) a _ 0 j
+      ∙ getD-set-other (set x (base (w .channel)) (high f)) (base (w .channel) + 1) a _ 0 i
+      ∙ getD-set-other x (base (w .channel)) a _ 0 h
+
+  mailbox-apart : (k : ℕ) (d : ℕ) → d ≤ 7 → mailboxAt (w .pointer) k ≡ base (w .channel) + d → ⊥
+  unfolding mailboxAt base
+  mailbox-apart k d h e = omega arith
+
+  laid-in : (x : List ℕ) (k : ℕ) → getD (markedChrx (retagged x (w .channel) (high f) (low f)) (w .channel)) (mailboxAt (w .pointer) k) 0 ≡ getD x (mailboxAt (w .pointer) k) 0
+  laid-in x k = channel-bytes x (mailboxAt (w .pointer) k) (λ e. mailbox-apart k 0 (omega arith) (omega arith)) (mailbox-apart k 1 (omega arith)) (mailbox-apart k 3 (omega arith))
+
+  pub laid-at : length m ≡ 256 → Fits 30 f → w .matched ≡ true → length (f .bytes) + 1 ≤ w .length
+      → (k : ℕ) → k ≤ length (f .bytes) → getD (received m w f) (mailboxAt (w .pointer) k) 0 ≡ getD (statusByte (low f) (length (f .bytes)) ∷ f .bytes) k 0
+  unfolding storedFrame
+  laid-at l g e h k i =
+      let z = g .size in
+      rw (received-fits e h)
+      (laid-in _ k
+      ∙ ap (λ (i : ℕ). getD (laidFrom m (w .pointer) 0 (statusByte (low f) (length (f .bytes)) ∷ f .bytes)) (mailboxAt (w .pointer) i) 0) (sym (zero-add k))
+      ∙ laid-same (statusByte (low f) (length (f .bytes)) ∷ f .bytes) m (w .pointer) 0 l (omega arith) k (omega arith))
+
+  pub elsewhere : w .matched ≡ true → length (f .bytes) + 1 ≤ w .length
+      → (a : ℕ) → ((k : ℕ) → k ≤ length (f .bytes) → a ≡ mailboxAt (w .pointer) k → ⊥)
+      → (a ≡ base (w .channel) → ⊥) → (a ≡ base (w .channel) + 1 → ⊥) → (a ≡ base (w .channel) + 3 → ⊥) → getD (received m w f) a 0 ≡ getD m a 0
+  unfolding storedFrame
+  elsewhere e h a n x y z =
+      rw (received-fits e h)
+      (channel-bytes _ a x y z ∙ laid-other (statusByte (low f) (length (f .bytes)) ∷ f .bytes) m (w .pointer) 0 a (λ j i q. n j (omega arith) (q ∙ ap (mailboxAt (w .pointer)) (zero-add j))))
+
+-- ---- the map's length, over every run
+
+laid-length : (bs m : List ℕ) (p k : ℕ) → length (laidFrom m p k bs) ≡ length m
+unfolding laidFrom
+laid-length [] m p k = refl
+laid-length (b ∷ bs) m p k = laid-length bs (set m (mailboxAt p k) b) p (k + 1) ∙ length-set m (mailboxAt p k) b
+
+ended-length : (x : Ending) (m : List ℕ) (c : ℕ) → length (memoryEnded x m c) ≡ length m
+unfolding memoryEnded markedChtx markedCher
+ended-length Going m c = refl
+ended-length Sent m c = length-set m _ _
+ended-length Exhausted m c = length-set (markedCher m c) _ _ ∙ length-set m _ _
+ended-length Aborted m c = length-set m _ _
+ended-length Rearbitrated m c = refl
+
+delivered-length : (d : Delivery) (m : List ℕ) (r : Reception) → length (memoryDelivered d m r) ≡ length m
+unfolding memoryDelivered memoryStored stored markedChrx retagged markedCher
+delivered-length effect.Nothing m r = refl
+delivered-length effect.Stored m r = simp (length-set, laid-length)
+delivered-length effect.Overflowed m r = length-set m _ _
+delivered-length effect.Spoiled m r = length-set m _ _
+
+reset-length : (m : List ℕ) → length (resetMemory m) ≡ length m
+unfolding resetMemory
+reset-length m = simp length-set
+
+written-length : (c : Controller) (a v : ℕ) → length (written c a v .memory) ≡ length (c .memory)
+unfolding written resetAll byteWritten keptByte
+written-length c a v =
+    picked (λ (x : Controller). length (x .memory) ≡ length (c .memory)) (resets a v) (resetAll c) _ (λ e. reset-length (c .memory))
+    (λ e. picked (λ (x : Controller). length (x .memory) ≡ length (c .memory)) (sleeps a v) _ (byteWritten c a v) (λ d. refl)
+    (λ d. ended-length _ (keptByte (c .memory) a v) (c .core .service .channel)
+    ∙ picked (λ (x : List ℕ). length x ≡ length (c .memory)) (writeOnly a) (c .memory) (set (c .memory) (a % 256) v) (λ i. refl) (λ i. length-set (c .memory) (a % 256) v)))
+
+slot-length : (c : Controller) (l : ℕ) → length (activeSlot c l .memory) ≡ length (c .memory)
+unfolding activeSlot sampledSlot judgedSlot memoryJudged
+slot-length c l = ended-length _ _ _ ∙ delivered-length _ (c .memory) (c .core .reception)
+
+kept-length : (c : Controller) (e : Event) → Step c e → length (next c e .memory) ≡ length (c .memory)
+unfolding next refuse accept answered restedSlot resetAll
+kept-length c e (refusal n h) = ap (λ (x : Answer). length (x .next .memory)) h
+kept-length c e (reset h) = ap (λ (x : Answer). length (x .next .memory)) h ∙ reset-length (c .memory)
+kept-length c e (wrote h) = ap (λ (x : Answer). length (x .next .memory)) h ∙ written-length c _ _
+kept-length c e (gave v h) = ap (λ (x : Answer). length (x .next .memory)) h
+kept-length c e (went a h) = ap (λ (x : Answer). length (x .next .memory)) h ∙ slot-length c _
+kept-length c e (rested a h) = ap (λ (x : Answer). length (x .next .memory)) h
+
+run-length : (c : Controller) (es : List Event) → length (after c es .memory) ≡ length (c .memory)
+unfolding after
+run-length c [] = refl
+run-length c (e ∷ es) = run-length (next c e) es ∙ kept-length c e (step-of c e)
+
+pub map-long : (es : List Event) → length (after fresh es .memory) ≡ 256
+unfolding fresh resetAll
+map-long es = run-length fresh es ∙ reset-length (replicate 256 0)

@@ -1,0 +1,21 @@
+use mathlib.Core.Path.{refl}
+use Rattle.leb128.specs.Number.{number, written, groups, groupsOf, before, faultOf, refusalNumber}
+use Rattle.leb128.specs.Cases.{Cases}
+use Rattle.leb128.proofs.cases.Statement.{statement}
+use Rattle.leb128.proofs.cases.Tie as tie
+
+values : Cases
+unfolding number written groups groupsOf before faultOf refusalNumber
+values =
+    record {
+      largest = refl;
+      largest′ = refl;
+      above = refl;
+      third-missing = refl;
+      third-zero = refl;
+      third-more = refl;
+      empty = refl;
+    }
+
+pub cases-spec : {M : Type 1} → statement M
+cases-spec = tie.close (tie.spec (λ c. values))

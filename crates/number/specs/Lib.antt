@@ -1,4 +1,0 @@
-pub mod Number
-pub mod Laws
-pub mod Format
-pub mod Cases

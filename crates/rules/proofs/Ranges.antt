@@ -1,0 +1,5 @@
+pub mod Bytes
+pub mod Limits
+pub mod Reception
+pub mod Service
+pub mod Reach

@@ -1,0 +1,174 @@
+-- Rows of bytes stay rows of bytes, and what they say stays in its range.
+--   at-below, set-below, .. == reading and writing a row        fits-sent, setting-small == the frame that a channel sends and MR
+--   stored-below, cher-below, .. == what is written to the memory map        buffer-limits, winner-limits, ready-named == who takes a frame, who sends
+use Prim.Native.Nat.{ℕ, zero, suc, _+_, _-_, _%_, _≤_, _<_}
+use mathlib.Core.Bool.{Bool}
+use mathlib.Core.List.{List}
+use mathlib.Core.Path.{_≡_, refl, ap}
+use native.Mathlib.Omega.{arith}
+use lib.Dec.{eqb, leb}
+use lib.ListN.{length, getD, set, take, drop, replicate}
+use Rattle.line.specs.Bits.{Below, none, one}
+use Rattle.line.specs.Frame.{Fits}
+use Rattle.line.proofs.Laws.{picked}
+use Rattle.rules.specs.Definitions.Registers.{transmitControl, retrySetting}
+use Rattle.rules.specs.Definitions.Channels.{base, bufferOf, twelve, withCher, withChtx, withChrx, channels, channelAt, lengthOf, noBuffer, ownBuffer, linkedBuffer, nobody, winnerOf, lowest, lowestListening, won, winnerFor, takes, ready, lowestReady}
+use Rattle.rules.specs.Definitions.Mailbox.{mailboxAt, statusByte, laidFrom, stored, mailboxBytes, dataIn, sentFrame, retagged, markedCher, markedChtx, markedChrx, resetMemory}
+use Rattle.rules.proofs.Ranges.Limits.{WinnerLimits}
+use Rattle.rules.specs.declared.Buffer.{Buffer}
+use Rattle.rules.specs.declared.Choice.{Choice}
+use Rattle.rules.specs.declared.Choice.the-variants.{Nothing, Lowest}
+
+-- ---- rows
+
+pub at-below : {xs : List ℕ} → Below 256 xs → (k : ℕ) → getD xs k 0 < 256
+at-below none k = omega arith
+at-below (one h b) zero = h
+at-below (one h b) (suc k) = at-below b k
+
+pub set-below : {xs : List ℕ} → Below 256 xs → (k v : ℕ) → v < 256 → Below 256 (set xs k v)
+set-below none k v h = none
+set-below (one g b) zero v h = one h b
+set-below (one g b) (suc k) v h = one g (set-below b k v h)
+
+pub take-below : {xs : List ℕ} → Below 256 xs → (n : ℕ) → Below 256 (take n xs)
+take-below b zero = none
+take-below none (suc n) = none
+take-below (one h b) (suc n) = one h (take-below b n)
+
+pub drop-below : {xs : List ℕ} → Below 256 xs → (n : ℕ) → Below 256 (drop n xs)
+drop-below b zero = b
+drop-below none (suc n) = none
+drop-below (one h b) (suc n) = drop-below b n
+
+pub zeros-below : (n : ℕ) → Below 256 (replicate n 0)
+zeros-below zero = none
+zeros-below (suc n) = one {x = 0} (omega arith) (zeros-below n)
+
+-- ---- the frame that a channel sends, and the retry setting
+
+pub data-small : (l : ℕ) → dataIn l ≤ 30
+unfolding dataIn
+data-small l = picked (λ x. x ≤ 30) (eqb l 0) 0 ((l - 1) % 31) (λ e. omega arith) (λ e. omega arith)
+
+pub mailbox-below : {m : List ℕ} → Below 256 m → (p k n : ℕ) → Below 256 (mailboxBytes m p k n)
+unfolding mailboxBytes
+mailbox-below b p k zero = none
+mailbox-below b p k (suc n) = one (at-below b (mailboxAt p k)) (mailbox-below b p (k + 1) n)
+
+pub mailbox-length : (m : List ℕ) (p k n : ℕ) → length (mailboxBytes m p k n) ≡ n
+unfolding mailboxBytes
+mailbox-length m p k zero = refl
+mailbox-length m p k (suc n) = ap suc (mailbox-length m p (k + 1) n)
+
+pub fits-sent : (m : List ℕ) (c : ℕ) → Below 256 m → Fits 30 (sentFrame m c)
+unfolding sentFrame twelve
+fits-sent m c b =
+    let high = at-below b (base c) in
+    let low = at-below b (base c + 1) in
+    let long = mailbox-length m (bufferOf m c .pointer) 1 (dataIn (bufferOf m c .length)) in
+    record {
+      identifier = omega arith;
+      command = omega arith;
+      size = omega (arith, data-small (bufferOf m c .length));
+      bytes = mailbox-below b (bufferOf m c .pointer) 1 (dataIn (bufferOf m c .length));
+    }
+
+pub setting-small : (m : List ℕ) → Below 256 m → retrySetting (getD m transmitControl 0) ≤ 15
+unfolding retrySetting
+setting-small m b = omega (arith, at-below b transmitControl)
+
+-- ---- what is written to the memory map
+
+pub laid-below : {m bs : List ℕ} → Below 256 m → Below 256 bs → (p k : ℕ) → Below 256 (laidFrom m p k bs)
+unfolding laidFrom
+laid-below b none p k = b
+laid-below b (one {x = x} h bs) p k = laid-below (set-below b (mailboxAt p k) x h) bs p (k + 1)
+
+pub stored-below : {m bs : List ℕ} → Below 256 m → Below 256 bs → (p n : ℕ) → Below 256 (stored m p bs n)
+unfolding stored statusByte
+stored-below {bs = bs} b g p n =
+    laid-below b (one {x = statusByte (getD bs 1 0) n} (omega arith) (take-below (drop-below g 2) n)) p 0
+
+pub retagged-below : {m : List ℕ} → Below 256 m → (c high low : ℕ) → high < 256 → low < 256 → Below 256 (retagged m c high low)
+unfolding retagged
+retagged-below b c high low h l = set-below (set-below b (base c) high h) (base c + 1) _ (omega arith)
+
+pub cher-below : {m : List ℕ} → Below 256 m → (c : ℕ) → Below 256 (markedCher m c)
+unfolding markedCher withCher
+cher-below b c = let h = at-below b (base c + 3) in set-below b (base c + 3) _ (omega arith)
+
+pub chtx-below : {m : List ℕ} → Below 256 m → (c : ℕ) → Below 256 (markedChtx m c)
+unfolding markedChtx withChtx
+chtx-below b c = let h = at-below b (base c + 3) in set-below b (base c + 3) _ (omega arith)
+
+pub chrx-below : {m : List ℕ} → Below 256 m → (c : ℕ) → Below 256 (markedChrx m c)
+unfolding markedChrx withChrx
+chrx-below b c = let h = at-below b (base c + 3) in set-below b (base c + 3) _ (omega arith)
+
+pub reset-below : {m : List ℕ} → Below 256 m → Below 256 (resetMemory m)
+unfolding resetMemory
+reset-below b =
+    set-below (set-below (set-below (set-below b _ _ (omega arith)) _ _ (omega arith)) _ _ (omega arith)) _ _ (omega arith)
+
+-- ---- a channel's buffer
+
+pub record BufferLimits (b : Buffer) : Type 0 where
+  pub pointer : b .pointer ≤ 127
+  pub length : b .length ≤ 31
+
+no-buffer : BufferLimits noBuffer
+unfolding noBuffer
+no-buffer = record { pointer = omega arith; length = omega arith }
+
+own-buffer : {m : List ℕ} → Below 256 m → (c : ℕ) → BufferLimits (ownBuffer (channelAt m c))
+unfolding ownBuffer channelAt lengthOf
+own-buffer {m} b c =
+    let h = at-below b (base c + 3) in
+    picked BufferLimits (eqb (lengthOf (channelAt m c .status)) 0) noBuffer _ (λ e. no-buffer) (λ e. record { pointer = omega arith; length = omega arith })
+
+linked-buffer : {m : List ℕ} → Below 256 m → (c named : ℕ) → BufferLimits (linkedBuffer m c named)
+unfolding linkedBuffer
+linked-buffer {m} b c named =
+    picked BufferLimits (leb channels named) noBuffer _ (λ e. no-buffer)
+    (λ e. picked BufferLimits (eqb named c) noBuffer _ (λ d. no-buffer) (λ d. own-buffer b named))
+
+pub buffer-limits : {m : List ℕ} → Below 256 m → (c : ℕ) → BufferLimits (bufferOf m c)
+unfolding bufferOf
+buffer-limits {m} b c =
+    picked BufferLimits (eqb (lengthOf (channelAt m c .status)) 0) (linkedBuffer m c (channelAt m c .pointer % 16)) (ownBuffer (channelAt m c))
+    (λ e. linked-buffer b c _) (λ e. own-buffer b c)
+
+-- ---- who takes a frame, who sends
+
+-- a channel that is found is one of the fourteen
+pub data Named : Choice → Type 0 where
+  nothing : Named Nothing
+  channel : {c : ℕ} → c ≤ 13 → Named (Lowest c)
+
+lowest-named : (passes : ℕ → Bool) (left c : ℕ) → c + left ≤ channels → Named (lowest passes left c)
+unfolding lowest
+lowest-named passes zero c h = nothing
+lowest-named passes (suc left) c h =
+    picked Named (passes c) (Lowest c) (lowest passes left (c + 1)) (λ e. channel (omega arith)) (λ e. lowest-named passes left (c + 1) (omega arith))
+
+pub ready-named : (m : List ℕ) (longest : ℕ) → Named (lowestReady m longest)
+unfolding lowestReady
+ready-named m longest = lowest-named (ready m longest) channels 0 (omega arith)
+
+listening-named : (m : List ℕ) (high low : ℕ) → Named (lowestListening m high low)
+unfolding lowestListening
+listening-named m high low = lowest-named (λ c. takes m c high low) channels 0 (omega arith)
+
+pub nobody-limits : WinnerLimits nobody
+unfolding nobody
+nobody-limits = record { channel = omega arith; pointer = omega arith; length = omega arith }
+
+won-limits : {m : List ℕ} → Below 256 m → {x : Choice} → Named x → WinnerLimits (won m x)
+unfolding won winnerOf
+won-limits b nothing = nobody-limits
+won-limits b (channel {c = c} h) = let l = buffer-limits b c in record { channel = h; pointer = l .pointer; length = l .length }
+
+pub winner-limits : {m : List ℕ} → Below 256 m → (high low : ℕ) → WinnerLimits (winnerFor m high low)
+unfolding winnerFor
+winner-limits {m} b high low = won-limits b (listening-named m high low)

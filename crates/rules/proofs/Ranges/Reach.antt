@@ -1,0 +1,368 @@
+-- Every controller that a fresh one reaches is fine: none is refused with number 6. A refused event changes nothing.
+--   fine-fresh, fine-next, fine-after == every reached controller is fine        never-six == so its numbers are in range, and never-refused-six
+--   refused-same, refused-value == a refusal leaves the controller as it is, with zero elsewhere
+use Prim.Native.Nat.{ℕ, _%_, _≤_, _<_}
+use mathlib.Core.Bool.{true, false}
+use mathlib.Core.List.{List, [], _∷_}
+use mathlib.Core.Path.{_≡_, refl}
+use native.Mathlib.Omega.{arith}
+use lib.Dec.{eqb, ltb}
+use lib.ListN.{getD, set}
+use Rattle.line.specs.Bits.{Below}
+use Rattle.line.proofs.Laws.{picked}
+use Rattle.rules.specs.Definitions.Registers.{command, readOnly, reserved, fixedBits, interruptReset, transmitControl, autonomous, writeOnly, asksIdle, asksActivation, asksRearbitration, resetReport}
+use Rattle.rules.specs.Definitions.Reception.{unsettled}
+use Rattle.rules.specs.Definitions.Delivery.{withFlags}
+use Rattle.rules.specs.Definitions.Service.{roleOf, stopped, choose, aborts, abortAsked, rearAsked}
+use Rattle.rules.specs.Definitions.State.{inRange, isActive, isAsleep, serving, inMode, withActivity, withReport, withService, resetCore, idled, idleDue, slept, idleAsked, activated}
+use Rattle.rules.specs.Definitions.Slots.{longest, heardAs, heard, delivers, serviceJudged, ending, reportAfter, memoryJudged, coreJudged, chooses, choiceMade, startMade, followsOn, sampleOf, judgedSlot, sampledSlot, activeSlot}
+use Rattle.rules.specs.Definitions.Host.{resetAll, resets, sleeps, modeCommanded, rearCommanded, keptByte, flagsCleared, coreWritten, serviceAsked, stoppedCore, byteWritten, written, byteRead, accessRefused, writeRefused, readRefused}
+use Rattle.rules.specs.Definitions.Run.{fresh, refuse, accept, pinReset, hostWrite, hostRead, answered, restedSlot, slot, step, next, after}
+use Rattle.rules.proofs.Ranges.Limits.{RetriesLimits, ReportLimits, Fine, limits-in-range}
+use Rattle.rules.proofs.Ranges.Bytes.{set-below, zeros-below, reset-below}
+use Rattle.rules.proofs.Ranges.Reception.{Received, quiet-received, judged-received, line-small, Heard, frame-heard, quiet-heard, heard-report, delivered-report, delivered-below}
+use Rattle.rules.proofs.Ranges.Service.{Served, resting-served, Judged, judged, own-heard, Spent, served-spent, judged-spent, stopped-ends, ending-ends, settled-served, ended-below, sending-report, judged-report, ended-report, choose-served, started-served, abort-served, rear-served}
+use Rattle.rules.specs.declared.Report.{Report}
+use Rattle.rules.specs.declared.Service.{Service}
+use Rattle.rules.specs.declared.Hearing.{Hearing}
+use Rattle.rules.specs.declared.Verdict.{Verdict}
+use Rattle.rules.specs.declared.Role.{Role}
+use Rattle.rules.specs.declared.Role.the-variants.{Nobody, Receiver, Sender}
+use Rattle.rules.specs.declared.Mode.the-variants.{Active}
+use Rattle.rules.specs.declared.Activity.{Activity}
+use Rattle.rules.specs.declared.Core.{Core}
+use Rattle.rules.specs.declared.Controller.{Controller}
+use Rattle.rules.specs.declared.Answer.{Answer}
+use Rattle.rules.specs.declared.Event.{Event}
+use Rattle.rules.specs.declared.Event.the-variants.{Reset, Write, Read, Slot}
+
+-- ---- a fine controller, part by part
+
+pub record Kept (k : Core) : Type 0 where
+  pub report : ReportLimits (k .report)
+  pub line : k .line .count ≤ 12
+  pub reception : Received (k .reception)
+  pub service : Served (k .service)
+
+pub kept-fine : (c : Controller) → Below 256 (c .memory) → Kept (c .core) → Fine c
+kept-fine c b f =
+    record {
+      memory = b;
+      received = f .reception .bytes;
+      limits = record { report = f .report; line = f .line; reception = f .reception .limits; service = f .service .limits };
+      retries = f .service .retries;
+    }
+
+pub fine-kept : (c : Controller) → Fine c → Kept (c .core)
+fine-kept c f =
+    let l = f .limits in
+    record {
+      report = l .report;
+      line = l .line;
+      reception = record { limits = l .reception; bytes = f .received };
+      service = record { limits = l .service; retries = f .retries };
+    }
+
+-- ---- a sample, with its effects
+
+as-heard : (x : Role) (k : Core) {w : Verdict} (v : ℕ) → Judged (k .service .effort) w → Heard (heardAs x k w v)
+unfolding heardAs
+as-heard Nobody k v j = quiet-heard (k .line) v
+as-heard Receiver k v j = frame-heard (k .reception) longest v
+as-heard Sender k v j = own-heard (k .service .effort) j
+
+is-heard : (k : Core) {w : Verdict} (v : ℕ) → Judged (k .service .effort) w → Heard (heard k w v)
+unfolding heard
+is-heard k v j = as-heard (roleOf (k .service .effort .progress) (k .reception .place)) k v j
+
+after-report : (k : Core) (w : Verdict) {h : Hearing} → Kept k → Judged (k .service .effort) w → Heard h → ReportLimits (reportAfter k w h)
+unfolding reportAfter
+after-report k w {h} f j i =
+    let s : Spent (serviceJudged w (k .service)) = judged-spent (k .service) j (f .service) in
+    ended-report (ending k w) _ (serviceJudged w (k .service))
+    (judged-report w _ (serviceJudged w (k .service))
+    (delivered-report (delivers w h (k .reception)) _ (k .reception) (heard-report i (k .report) (f .report)) (f .reception)) s)
+    s
+
+judged-below : {m : List ℕ} → Below 256 m → (k : Core) (w : Verdict) (h : Hearing) → Kept k → Below 256 (memoryJudged m k w h)
+unfolding memoryJudged
+judged-below b k w h f =
+    ended-below (ending k w) (delivered-below (delivers w h (k .reception)) b (k .reception) (f .reception)) (k .service .channel)
+
+judged-kept : {m : List ℕ} → Below 256 m → (k : Core) (w : Verdict) {h : Hearing} (v : ℕ) → Kept k → Judged (k .service .effort) w → Heard h
+    → Kept (coreJudged m k w h v)
+unfolding coreJudged ending
+judged-kept b k w {h} v f j i =
+    let s : Spent (serviceJudged w (k .service)) = judged-spent (k .service) j (f .service) in
+    record {
+      report = after-report k w f j i;
+      line = line-small h (k .line) v (f .line);
+      reception = judged-received b h (k .reception) v (f .reception);
+      service = settled-served (serviceJudged w (k .service)) s (ending-ends w (serviceJudged w (k .service)) s);
+    }
+
+-- ---- what follows: idle, choice, start
+
+report-kept : (k : Core) (x : Report) → Kept k → ReportLimits x → Kept (withReport k x)
+unfolding withReport
+report-kept k x f l = record { report = l; line = f .line; reception = f .reception; service = f .service }
+
+service-kept : (k : Core) (s : Service) → Kept k → Served s → Kept (withService k s)
+unfolding withService
+service-kept k s f g = record { report = f .report; line = f .line; reception = f .reception; service = g }
+
+activity-kept : (k : Core) (a : Activity) → Kept k → Kept (withActivity k a)
+unfolding withActivity
+activity-kept k a f = record { report = f .report; line = f .line; reception = f .reception; service = f .service }
+
+idled-kept : (k : Core) → Kept k → Kept (idled k)
+unfolding idled
+idled-kept k f = record { report = f .report; line = f .line; reception = quiet-received; service = f .service }
+
+idle-kept : (k : Core) → Kept k → Kept (idleDue k)
+unfolding idleDue
+idle-kept k f =
+    picked Kept (k .activity .waiting) _ k (λ e. picked Kept (serving (k .service)) k (idled k) (λ d. f) (λ d. idled-kept k f)) (λ e. f)
+
+choice-kept : {m : List ℕ} → Below 256 m → (k : Core) → Kept k → Kept (choiceMade m k)
+unfolding choiceMade
+choice-kept {m} b k f =
+    let s : Served (choose m longest) = choose-served b longest in
+    picked Kept (chooses k) _ k
+    (λ e. picked Kept (serving (choose m longest)) _ k
+    (λ d. service-kept _ (choose m longest) (report-kept k _ f (sending-report (k .report) (choose m longest) (f .report) (served-spent _ s))) s)
+    (λ d. f))
+    (λ e. f)
+
+start-kept : (m : List ℕ) (k : Core) → Kept k → Kept (startMade m k)
+unfolding startMade
+start-kept m k f = service-kept k _ f (started-served (k .service) (autonomous (getD m transmitControl 0)) (k .line) (k .reception) (f .service))
+
+follows-kept : {m : List ℕ} → Below 256 m → (k : Core) → Kept k → Kept (followsOn m k)
+unfolding followsOn
+follows-kept {m} b k f = start-kept m _ (choice-kept b _ (idle-kept k f))
+
+-- ---- the slot
+
+judged-fine : (c : Controller) (w : Verdict) {h : Hearing} (v : ℕ) → Fine c → Judged (c .core .service .effort) w → Heard h → Fine (judgedSlot c w h v)
+unfolding judgedSlot
+judged-fine c w {h} v f j i =
+    let k = fine-kept c f in
+    let b = judged-below (f .memory) (c .core) w h k in
+    kept-fine _ b (follows-kept b _ (judged-kept b (c .core) w v k j i))
+
+sampled-fine : (c : Controller) (v : ℕ) → Fine c → Fine (sampledSlot c v)
+unfolding sampledSlot
+sampled-fine c v f = let j = judged (c .core .service .effort) v in judged-fine c _ v f j (is-heard (c .core) v j)
+
+active-fine : (c : Controller) (levels : ℕ) → Fine c → Fine (activeSlot c levels)
+unfolding activeSlot
+active-fine c levels f = sampled-fine c (sampleOf (c .memory) levels) f
+
+-- ---- reset
+
+reset-kept : Kept resetCore
+unfolding resetCore resetReport unsettled
+reset-kept =
+    let r : RetriesLimits (record { count = 0; channel = 0 }) = record { count = omega arith; channel = omega arith } in
+    record { report = record { sending = r; message = r; error = omega arith }; line = omega arith; reception = quiet-received; service = resting-served }
+
+reset-fine : (c : Controller) → Below 256 (c .memory) → Fine (resetAll c)
+unfolding resetAll
+reset-fine c b = kept-fine _ (reset-below b) reset-kept
+
+-- ---- a write
+
+activated-kept : (k : Core) → Kept k → Kept (activated k)
+unfolding activated unsettled
+activated-kept k f =
+    picked Kept (isActive (k .activity .mode)) (withActivity k (inMode Active false)) _ (λ e. activity-kept k (inMode Active false) f)
+    (λ e. record { report = f .report; line = omega arith; reception = f .reception; service = f .service })
+
+idle-asked-kept : (k : Core) → Kept k → Kept (idleAsked k)
+unfolding idleAsked
+idle-asked-kept k f = picked Kept (isActive (k .activity .mode)) (withActivity k (inMode Active true)) k (λ e. activity-kept k (inMode Active true) f) (λ e. f)
+
+mode-kept : (k : Core) (v : ℕ) → Kept k → Kept (modeCommanded k v)
+unfolding modeCommanded
+mode-kept k v f =
+    picked Kept (asksIdle v) (idleAsked k) _ (λ e. idle-asked-kept k f)
+    (λ e. picked Kept (asksActivation v) (activated k) k (λ d. activated-kept k f) (λ d. f))
+
+cleared-kept : (k : Core) (v : ℕ) → Kept k → Kept (flagsCleared k v)
+unfolding flagsCleared withFlags
+cleared-kept k v f = let l = f .report in report-kept k _ f (record { sending = l .sending; message = l .message; error = l .error })
+
+written-kept : (k : Core) (address v : ℕ) → Kept k → Kept (coreWritten k address v)
+unfolding coreWritten
+written-kept k address v f =
+    picked Kept (eqb address command) (modeCommanded k v) _ (λ e. mode-kept k v f)
+    (λ e. picked Kept (eqb address interruptReset) (flagsCleared k v) k (λ d. cleared-kept k v f) (λ d. f))
+
+asked-served : (s : Service) (address v : ℕ) → Served s → Served (serviceAsked s address v)
+unfolding serviceAsked rearCommanded
+asked-served s address v f =
+    picked Served (eqb address command) _ _
+    (λ e. picked Served (asksRearbitration v) (rearAsked s) s (λ d. rear-served s f) (λ d. f))
+    (λ e. picked Served (aborts s address v) (abortAsked s) s (λ d. abort-served s f) (λ d. f))
+
+stopped-kept : (k : Core) (s : Service) → Kept k → Served s → Kept (stoppedCore k s)
+unfolding stoppedCore
+stopped-kept k s f g =
+    let p = served-spent s g in
+    idle-kept _ (service-kept _ _ (report-kept k _ f (ended-report (stopped s) (k .report) s (f .report) p)) (settled-served s p (stopped-ends s p)))
+
+slept-kept : (k : Core) → Kept k → Kept (slept k)
+unfolding slept
+slept-kept k f = record { report = f .report; line = f .line; reception = quiet-received; service = resting-served }
+
+kept-below : {m : List ℕ} → Below 256 m → (address v : ℕ) → v < 256 → Below 256 (keptByte m address v)
+unfolding keptByte
+kept-below {m} b address v h = picked (Below 256) (writeOnly address) m (set m (address % 256) v) (λ e. b) (λ e. set-below b (address % 256) v h)
+
+byte-fine : (c : Controller) (address v : ℕ) → v < 256 → Fine c → Fine (byteWritten c address v)
+unfolding byteWritten
+byte-fine c address v h f =
+    let k = fine-kept c f in
+    kept-fine _ (ended-below _ (kept-below (f .memory) address v h) (c .core .service .channel))
+    (stopped-kept _ _ (written-kept (c .core) address v k) (asked-served (c .core .service) address v (k .service)))
+
+written-fine : (c : Controller) (address v : ℕ) → v < 256 → Fine c → Fine (written c address v)
+unfolding written
+written-fine c address v h f =
+    picked Fine (resets address v) (resetAll c) _ (λ e. reset-fine c (f .memory))
+    (λ e. picked Fine (sleeps address v) _ (byteWritten c address v) (λ d. kept-fine _ (f .memory) (slept-kept (c .core) (fine-kept c f))) (λ d. byte-fine c address v h f))
+
+-- ---- every event
+
+abbrev FineNext : Answer → Type 0
+FineNext a = Fine (a .next)
+
+pub fine-next : (c : Controller) (e : Event) → Fine c → Fine (next c e)
+unfolding next step pinReset hostWrite hostRead slot refuse accept answered restedSlot
+fine-next c Reset f =
+    picked FineNext (inRange (c .core)) (accept 0 (resetAll c)) (refuse c 6) (λ e. reset-fine c (f .memory)) (λ e. f)
+fine-next c (Write address value) f =
+    picked FineNext (eqb (accessRefused (c .core) address) 0) _ (refuse c (accessRefused (c .core) address))
+    (λ e. picked FineNext (eqb (writeRefused address value) 0) (accept 0 (written c address (value % 256))) (refuse c (writeRefused address value))
+    (λ d. written-fine c address (value % 256) (omega arith) f) (λ d. f))
+    (λ e. f)
+fine-next c (Read address) f =
+    picked FineNext (eqb (accessRefused (c .core) address) 0) _ (refuse c (accessRefused (c .core) address))
+    (λ e. picked FineNext (eqb (readRefused address) 0) (accept (byteRead c address) c) (refuse c (readRefused address)) (λ d. f) (λ d. f))
+    (λ e. f)
+fine-next c (Slot levels) f =
+    picked FineNext (inRange (c .core)) _ (refuse c 6)
+    (λ e. picked FineNext (ltb 7 levels) (refuse c 5) _ (λ d. f)
+    (λ d. picked FineNext (isActive (c .core .activity .mode)) (answered (activeSlot c levels)) (restedSlot c) (λ a. active-fine c levels f) (λ a. f)))
+    (λ e. f)
+
+pub fine-fresh : Fine fresh
+unfolding fresh
+fine-fresh = reset-fine _ (zeros-below 256)
+
+pub fine-from : (c : Controller) (es : List Event) → Fine c → Fine (after c es)
+unfolding after
+fine-from c [] f = f
+fine-from c (e ∷ es) f = fine-from (next c e) es (fine-next c e f)
+
+pub fine-after : (es : List Event) → Fine (after fresh es)
+fine-after es = fine-from fresh es fine-fresh
+
+-- ---- number 6
+
+pub never-six : (es : List Event) → inRange (after fresh es .core) ≡ true
+never-six es = limits-in-range (after fresh es .core) (fine-after es .limits)
+
+abbrev Other : ℕ → Type 0
+Other n = n ≡ 6 → ⊥
+
+access-other : (k : Core) (address : ℕ) → inRange k ≡ true → Other (accessRefused k address)
+unfolding accessRefused
+access-other k address h =
+    rw h
+    (picked Other (isAsleep (k .activity .mode)) 7 _ (λ e d. omega arith)
+    (λ e. picked Other (ltb 255 address) 1 0 (λ i d. omega arith) (λ i d. omega arith)))
+
+write-other : (address value : ℕ) → Other (writeRefused address value)
+unfolding writeRefused
+write-other address value =
+    picked Other (ltb 255 value) 2 _ (λ e d. omega arith)
+    (λ e. picked Other (readOnly address) 3 _ (λ i d. omega arith)
+    (λ i. picked Other (reserved address) 3 _ (λ j d. omega arith)
+    (λ j. picked Other (fixedBits address (value % 256)) 0 8 (λ k d. omega arith) (λ k d. omega arith))))
+
+read-other : (address : ℕ) → Other (readRefused address)
+unfolding readRefused
+read-other address =
+    picked Other (writeOnly address) 4 _ (λ e d. omega arith)
+    (λ e. picked Other (reserved address) 4 0 (λ i d. omega arith) (λ i d. omega arith))
+
+abbrev OtherAnswer : Answer → Type 0
+OtherAnswer a = Other (a .refused)
+
+-- a controller in range is never refused with 6
+pub in-range-other : (c : Controller) (e : Event) → inRange (c .core) ≡ true → step c e .refused ≡ 6 → ⊥
+unfolding step pinReset hostWrite hostRead slot answered restedSlot refuse accept
+in-range-other c Reset h = rw h (λ d. omega arith)
+in-range-other c (Write address value) h =
+    picked OtherAnswer (eqb (accessRefused (c .core) address) 0) _ (refuse c (accessRefused (c .core) address))
+    (λ e. picked OtherAnswer (eqb (writeRefused address value) 0) (accept 0 (written c address (value % 256))) (refuse c (writeRefused address value))
+    (λ i d. omega arith) (λ i. write-other address value))
+    (λ e. access-other (c .core) address h)
+in-range-other c (Read address) h =
+    picked OtherAnswer (eqb (accessRefused (c .core) address) 0) _ (refuse c (accessRefused (c .core) address))
+    (λ e. picked OtherAnswer (eqb (readRefused address) 0) (accept (byteRead c address) c) (refuse c (readRefused address))
+    (λ i d. omega arith) (λ i. read-other address))
+    (λ e. access-other (c .core) address h)
+in-range-other c (Slot levels) h =
+    rw h
+    (picked OtherAnswer (ltb 7 levels) (refuse c 5) _ (λ e d. omega arith)
+    (λ e. picked OtherAnswer (isActive (c .core .activity .mode)) (answered (activeSlot c levels)) (restedSlot c) (λ i d. omega arith) (λ i d. omega arith)))
+
+pub never-refused-six : (es : List Event) (e : Event) → step (after fresh es) e .refused ≡ 6 → ⊥
+never-refused-six es e = in-range-other (after fresh es) e (never-six es)
+
+-- ---- a refusal
+
+-- what a refused answer says: nothing but its number
+pub record Unchanged (c : Controller) (a : Answer) : Type 0 where
+  pub value : a .value ≡ 0
+  pub next : a .next ≡ c
+
+abbrev Refusal : Controller → Answer → Type 0
+Refusal c a = (a .refused ≡ 0 → ⊥) → Unchanged c a
+
+refuse-unchanged : (c : Controller) (n : ℕ) → Refusal c (refuse c n)
+unfolding refuse
+refuse-unchanged c n h = record { value = refl; next = refl }
+
+accept-refused : (c d : Controller) (v : ℕ) → Refusal c (accept v d)
+unfolding accept
+accept-refused c d v h = absurd (h refl)
+
+pub unchanged : (c : Controller) (e : Event) → (step c e .refused ≡ 0 → ⊥) → Unchanged c (step c e)
+unfolding step pinReset hostWrite hostRead slot answered restedSlot
+unchanged c Reset =
+    picked (Refusal c) (inRange (c .core)) (accept 0 (resetAll c)) (refuse c 6) (λ e. accept-refused c _ 0) (λ e. refuse-unchanged c 6)
+unchanged c (Write address value) =
+    picked (Refusal c) (eqb (accessRefused (c .core) address) 0) _ (refuse c (accessRefused (c .core) address))
+    (λ e. picked (Refusal c) (eqb (writeRefused address value) 0) (accept 0 (written c address (value % 256))) (refuse c (writeRefused address value))
+    (λ d. accept-refused c _ 0) (λ d. refuse-unchanged c _))
+    (λ e. refuse-unchanged c _)
+unchanged c (Read address) =
+    picked (Refusal c) (eqb (accessRefused (c .core) address) 0) _ (refuse c (accessRefused (c .core) address))
+    (λ e. picked (Refusal c) (eqb (readRefused address) 0) (accept (byteRead c address) c) (refuse c (readRefused address))
+    (λ d. accept-refused c c _) (λ d. refuse-unchanged c _))
+    (λ e. refuse-unchanged c _)
+unchanged c (Slot levels) =
+    picked (Refusal c) (inRange (c .core)) _ (refuse c 6)
+    (λ e. picked (Refusal c) (ltb 7 levels) (refuse c 5) _ (λ d. refuse-unchanged c 5)
+    (λ d. picked (Refusal c) (isActive (c .core .activity .mode)) (answered (activeSlot c levels)) (restedSlot c) (λ a. accept-refused c _ _) (λ a. accept-refused c c _)))
+    (λ e. refuse-unchanged c 6)
+
+pub refused-same : (c : Controller) (e : Event) → (step c e .refused ≡ 0 → ⊥) → step c e .next ≡ c
+refused-same c e h = unchanged c e h .next
+
+pub refused-value : (c : Controller) (e : Event) → (step c e .refused ≡ 0 → ⊥) → step c e .value ≡ 0
+refused-value c e h = unchanged c e h .value

@@ -1,0 +1,11 @@
+pub mod Rows
+pub mod Invariant
+pub mod Held
+pub mod InvariantSteps
+pub mod InvariantFrames
+pub mod InvariantJudged
+pub mod InvariantLaws
+pub mod OwnAttempt
+pub mod Log
+pub mod LogSteps
+pub mod Delivered

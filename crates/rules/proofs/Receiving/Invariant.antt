@@ -1,0 +1,95 @@
+-- What the frame under way says of the samples taken since its start.
+--   frameHeld == the frame that the bytes hold        Invariant == the samples are what the reception has taken, by the phase that it is in
+--   Whole == a good frame and its samples        Owed == the samples before an acknowledge that the model drives
+use Prim.Native.Nat.{ℕ, _+_, _*_, _/_, _%_, _≤_}
+use mathlib.Core.Bool.{Bool, true}
+use mathlib.Core.List.{List, [], _∷_, _++_}
+use mathlib.Core.Path.{_≡_}
+use lib.ListN.{length, getD, take, drop, replicate}
+use Rattle.line.specs.Bits.{bits, Below}
+use Rattle.line.specs.LineCode.{lineCode}
+use Rattle.line.specs.Frame.{Frame, Fits, byteBits, carried, start, endOfData, acknowledgeSlots, slots}
+use Rattle.rules.specs.Definitions.Reception.{dataCount}
+use Rattle.rules.specs.Definitions.Hearing.{replyRequest}
+use Rattle.rules.specs.Statements.Valid.{Valid, high, low, owes}
+use Rattle.rules.specs.declared.Phase.{Phase}
+use Rattle.rules.specs.declared.Phase.the-variants.{Quiet, Start, Body, Acknowledge, End}
+use Rattle.rules.specs.declared.Reception.{Reception}
+
+-- identifier and command in two bytes, then the data
+unfoldable pub frameHeld : Reception → Bool → Frame
+frameHeld r a =
+    record {
+      identifier = getD (r .bytes) 0 0 * 16 + getD (r .bytes) 1 0 / 16;
+      command = getD (r .bytes) 1 0 % 16;
+      bytes = take (dataCount (r .nibbles)) (drop 2 (r .bytes));
+      acknowledge = a;
+    }
+
+pub record InStart (r : Reception) (s : List ℕ) : Type 0 where
+  pub some : 1 ≤ r .place .at
+  pub within : r .place .at ≤ 9
+  pub nibbles : r .nibbles ≡ 0
+  pub bytes : r .bytes ≡ replicate 34 0
+  pub samples : s ≡ take (r .place .at) start
+
+-- whole nibbles, then the bits of the one under way
+pub record InBody (r : Reception) (s : List ℕ) : Type 0 where
+  pub within : r .place .at ≤ 4
+  pub nibbles : r .nibbles ≤ 67
+  pub long : length (r .bytes) ≡ 34
+  pub below : Below 256 (r .bytes)
+  pub samples : s ≡ start ++ (lineCode (take (4 * r .nibbles) (byteBits (r .bytes))) ++ bits (r .place .at) (r .bits))
+
+-- a frame of n data bytes has been taken up to its end of data
+pub record Carried (r : Reception) : Type 0 where
+  pub fits : Fits 30 (frameHeld r true)
+  pub long : length (r .bytes) ≡ 34
+  pub below : Below 256 (r .bytes)
+  pub count : dataCount (r .nibbles) ≤ 30
+  pub request : replyRequest (getD (r .bytes) 1 0) ≡ true → dataCount (r .nibbles) ≡ 0
+
+pub record InAcknowledge (r : Reception) (s : List ℕ) : Type 0 where
+  pub within : r .place .at ≤ 1
+  pub held : Carried r
+  pub samples : s ≡ start ++ (lineCode (carried (frameHeld r true)) ++ (endOfData ++ bits (r .place .at) (r .bits)))
+
+pub record InEnd (r : Reception) (s : List ℕ) : Type 0 where
+  pub within : r .place .at ≤ 7
+  pub held : Carried r
+  pub acknowledged : Bool
+  pub valid : Valid (r .winner) (frameHeld r acknowledged)
+  pub samples : s ≡ start ++ (lineCode (carried (frameHeld r true)) ++ (endOfData ++ (acknowledgeSlots acknowledged ++ replicate (r .place .at) 1)))
+
+unfoldable pub InvariantIn : Phase → Reception → List ℕ → Type 0
+InvariantIn Quiet r s = ⊥
+InvariantIn Start r s = InStart r s
+InvariantIn Body r s = InBody r s
+InvariantIn Acknowledge r s = InAcknowledge r s
+InvariantIn End r s = InEnd r s
+
+-- s holds the samples since the frame's start, its first slot included
+unfoldable pub Invariant : Reception → List ℕ → Type 0
+Invariant r s = InvariantIn (r .place .phase) r s
+
+-- a good frame, with its last sample
+pub record Whole (r : Reception) (s : List ℕ) : Type 0 where
+  pub frame : Frame
+  pub fits : Fits 30 frame
+  pub slots-are : s ≡ slots frame
+  pub valid : Valid (r .winner) frame
+  pub high-is : getD (r .bytes) 0 0 ≡ high frame
+  pub low-is : getD (r .bytes) 1 0 ≡ low frame
+  pub bytes-are : take (dataCount (r .nibbles)) (drop 2 (r .bytes)) ≡ frame .bytes
+  pub count-is : dataCount (r .nibbles) ≡ length (frame .bytes)
+
+-- a valid frame with its acknowledge, of which the samples are all before the acknowledge and its first slot, whatever that was sampled as
+pub record Owed (r : Reception) (s : List ℕ) : Type 0 where
+  pub frame : Frame
+  pub fits : Fits 30 frame
+  pub valid : Valid (r .winner) frame
+  pub owed : owes (r .winner) frame ≡ true
+  pub high-is : getD (r .bytes) 0 0 ≡ high frame
+  pub low-is : getD (r .bytes) 1 0 ≡ low frame
+  pub first : ℕ
+  pub samples : s ≡ take (50 + 10 * length (frame .bytes)) (slots frame) ++ (first ∷ [])

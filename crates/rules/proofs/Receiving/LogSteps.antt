@@ -1,0 +1,366 @@
+-- Controller and log over every event: idle, choice and start, a host write, a slot.
+--   Logs == they belong together: next-logs
+use Prim.Native.Nat.{ℕ, _-_, _/_, _%_, _<_}
+use mathlib.Core.Bool.{Bool, true, false, false≢true}
+use mathlib.Core.List.{List}
+use mathlib.Core.Path.{_≡_, refl, ap, _∙_, sym, subst}
+use native.Mathlib.Omega.{arith}
+use borrow.Author.Tests.{le-ltb, eqb-true}
+use lib.Dec.{eqb}
+use lib.ListN.{getD}
+use Rattle.line.specs.Bits.{pick}
+use Rattle.line.specs.Frame.{Fits}
+use Rattle.line.proofs.Laws.{picked}
+use Rattle.rules.specs.Definitions.Registers.{both, lineControl, diagnosisControl, command, interruptReset, transmitControl, retrySetting, autonomous, asksIdle, asksActivation, asksRearbitration, inputLevel, inverted, sampled, selectedInput, invertsReceive}
+use Rattle.rules.specs.Definitions.Channels.{lowestReady}
+use Rattle.rules.specs.Definitions.Reception.{atPlace, quiet, isUnderWay, underWay, behind, inBody, isBody, free, startEnded}
+use Rattle.rules.proofs.Receiving.InvariantLaws.{invariant-under-way}
+use Rattle.rules.specs.Definitions.Attempt.{atStage, betweenAttempts, isBetween, drivesFrame, isDriving, judge, withProgress, noCounts, inService, isServing, waits, isWaiting, exhausted}
+use Rattle.rules.specs.Definitions.Service.{resting, withEffort, stopped, settled, reportSending, reportEnded, chosen, choiceOf, choose, opened, started, abortAsked, rearAsked, aborts}
+use Rattle.rules.specs.Definitions.State.{isActive, inMode, serving, withActivity, withReport, withService, resetCore, idled, idleDue, slept, idleAsked, activated}
+use Rattle.rules.specs.Definitions.Slots.{longest, heard, ending, memoryJudged, coreJudged, chooses, choiceMade, startMade, followsOn, sampleOf, judgedSlot, sampledSlot, activeSlot}
+use Rattle.rules.specs.Definitions.Host.{resetAll, resets, sleeps, modeCommanded, rearCommanded, flagsCleared, coreWritten, serviceAsked, stoppedCore, byteWritten, written}
+use Rattle.rules.specs.Definitions.Run.{accept, answered, restedSlot, step, next}
+use Rattle.rules.specs.Statements.Tally.{Stand, away, between, opening, inside, Tally, isAway}
+use Rattle.rules.specs.Statements.Sending.{accepted}
+use Rattle.rules.proofs.Sending.Join.{made, serviceIn, serviceOf}
+use Rattle.rules.proofs.Steps.{Step, refusal, reset, wrote, gave, went, rested, refused-next, refused-not, accepted-next}
+use Rattle.rules.proofs.Sending.Demand3.{Joined}
+use Rattle.rules.specs.Statements.Receiving.{Log, noLog, sampledLog, logIn, logNext}
+use Rattle.rules.proofs.Receiving.OwnAttempt.{Own, Placed, inCode}
+use Rattle.rules.proofs.Receiving.Log.{At, Stands, apart, closing, driving, receiving, resting-apart, resting-going, sampled-stands, settled-going, settledAfter, starting}
+use Rattle.rules.specs.declared.Report.{Report}
+use Rattle.rules.specs.declared.Choice.{Choice}
+use Rattle.rules.specs.declared.Choice.the-variants.{Nothing, Lowest}
+use Rattle.rules.specs.declared.Line.{Line}
+use Rattle.rules.specs.declared.Phase.{Phase}
+use Rattle.rules.specs.declared.Phase.the-variants.{Quiet, Start, Body, Acknowledge, End}
+use Rattle.rules.specs.declared.Reception.{Reception}
+use Rattle.rules.specs.declared.Stage.{Stage}
+use Rattle.rules.specs.declared.Stage.the-variants.{Resting, Waiting, Opening, Sending}
+use Rattle.rules.specs.declared.Effort.{Effort}
+use Rattle.rules.specs.declared.Service.{Service}
+use Rattle.rules.specs.declared.Ending.{Ending}
+use Rattle.rules.specs.declared.Ending.the-variants.{Going, Sent, Exhausted, Aborted, Rearbitrated}
+use Rattle.rules.specs.declared.Mode.the-variants.{Active}
+use Rattle.rules.specs.declared.Core.{Core}
+use Rattle.rules.specs.declared.Controller.{Controller}
+use Rattle.rules.specs.declared.Event.{Event}
+use Rattle.rules.specs.declared.Event.the-variants.{Reset, Write, Read, Slot}
+
+abbrev StandsIn : Log → Core → Type 0
+StandsIn l k = Stands (k .service) (k .reception) l
+
+-- ---- a waiting idle that has come due
+
+no-service-apart : (p : Stage) → isServing p ≡ false → isDriving p ≡ false
+unfolding isServing isDriving
+no-service-apart Resting e = refl
+no-service-apart Waiting e = refl
+no-service-apart Opening e = absurd (false≢true (sym e))
+no-service-apart Sending e = absurd (false≢true (sym e))
+
+quiet-not : underWay (quiet .place) ≡ false
+unfolding quiet atPlace underWay isUnderWay
+quiet-not = refl
+
+module _ (l : Log) (k : Core) (a : StandsIn l k) where
+  idled-stands : serving (k .service) ≡ false → StandsIn l (idled k)
+  unfolding idled serving inService drivesFrame
+  idled-stands e = record { going = a .going; stage = apart (no-service-apart (k .service .effort .progress .stage) e) quiet-not }
+
+  idle-stands : StandsIn l (idleDue k)
+  unfolding idleDue
+  idle-stands =
+      picked (StandsIn l) (k .activity .waiting) _ k (λ e. picked (StandsIn l) (serving (k .service)) k (idled k) (λ d. a) (λ d. idled-stands d)) (λ e. a)
+
+-- ---- the choice
+
+chosen-apart : (m : List ℕ) (x : Choice) → drivesFrame (choiceOf m x .effort .progress) ≡ false
+unfolding choiceOf
+chosen-apart m Nothing = resting-apart
+chosen-apart m (Lowest c) = unfold chosen atStage drivesFrame isDriving in refl
+
+chosen-going : (m : List ℕ) (x : Choice) → stopped (choiceOf m x) ≡ Going
+unfolding choiceOf
+chosen-going m Nothing = resting-going
+chosen-going m (Lowest c) = unfold chosen atStage stopped betweenAttempts isBetween exhausted noCounts in rw (le-ltb (retrySetting (getD m transmitControl 0)) 0 (omega arith))
+
+free-to-choose : (a b u : Bool) → pick a (pick b false (pick u false true)) false ≡ true → u ≡ false
+free-to-choose true true u e = absurd (false≢true e)
+free-to-choose true false true e = absurd (false≢true e)
+free-to-choose true false false e = refl
+free-to-choose false b u e = absurd (false≢true e)
+
+chosen-stands : (l : Log) (m : List ℕ) (k : Core) (x : Report) → underWay (k .reception .place) ≡ false → StandsIn l (withService (withReport k x) (choose m longest))
+unfolding withService withReport choose
+chosen-stands l m k x u = record { going = chosen-going m (lowestReady m longest); stage = apart (chosen-apart m (lowestReady m longest)) u }
+
+chooses-quiet : (k : Core) → chooses k ≡ true → underWay (k .reception .place) ≡ false
+unfolding chooses
+chooses-quiet k e = free-to-choose (isActive (k .activity .mode)) (serving (k .service)) (underWay (k .reception .place)) e
+
+choice-stands : (l : Log) (m : List ℕ) (k : Core) → StandsIn l k → StandsIn l (choiceMade m k)
+unfolding choiceMade
+choice-stands l m k a =
+    picked (StandsIn l) (chooses k) _ k
+    (λ e. picked (StandsIn l) (serving (choose m longest)) _ k (λ d. chosen-stands l m k (reportSending (k .report) (choose m longest)) (chooses-quiet k e)) (λ d. a))
+    (λ e. a)
+
+-- ---- the start
+
+waits-between : (p : Stage) → isWaiting p ≡ true → isBetween p ≡ true
+unfolding isWaiting isBetween
+waits-between Resting e = absurd (false≢true e)
+waits-between Waiting e = refl
+waits-between Opening e = absurd (false≢true e)
+waits-between Sending e = absurd (false≢true e)
+
+waits-apart : (p : Stage) → isWaiting p ≡ true → isDriving p ≡ true → ⊥
+unfolding isWaiting isDriving
+waits-apart Resting e d = absurd (false≢true e)
+waits-apart Waiting e d = absurd (false≢true d)
+waits-apart Opening e d = absurd (false≢true e)
+waits-apart Sending e d = absurd (false≢true e)
+
+opened-going : (s : Service) (at : ℕ) → waits (s .effort .progress) ≡ true → stopped (opened s at) ≡ stopped s
+unfolding stopped opened withEffort withProgress atStage betweenAttempts exhausted waits
+opened-going s at e = rw (waits-between (s .effort .progress .stage) e) (unfold isBetween in refl)
+
+body-is : (p : Phase) → isBody p ≡ true → p ≡ Body
+unfolding isBody
+body-is Quiet e = absurd (false≢true e)
+body-is Start e = absurd (false≢true e)
+body-is Body e = refl
+body-is Acknowledge e = absurd (false≢true e)
+body-is End e = absurd (false≢true e)
+
+-- a clean start sequence has just ended
+pub record StartTaken (r : Reception) : Type 0 where
+  pub at : r .place .at ≡ 0
+  pub nibbles : r .nibbles ≡ 0
+  pub phase : r .place .phase ≡ Body
+
+start-taken : (r : Reception) → startEnded r ≡ true → StartTaken r
+unfolding startEnded behind inBody
+start-taken r e = go (eqb (r .place .at) 0) refl (eqb (r .nibbles) 0) refl e
+  where
+    go : (a : Bool) → eqb (r .place .at) 0 ≡ a → (b : Bool) → eqb (r .nibbles) 0 ≡ b → pick a (pick b (isBody (r .place .phase)) false) false ≡ true → StartTaken r
+    go true x true y e = record { at = eqb-true (r .place .at) 0 x; nibbles = eqb-true (r .nibbles) 0 y; phase = body-is (r .place .phase) e }
+    go true x false y e = absurd (false≢true e)
+    go false x b y e = absurd (false≢true e)
+
+start-under-way : (r : Reception) → startEnded r ≡ true → underWay (r .place) ≡ true
+unfolding underWay
+start-under-way r e = rw (start-taken r e .phase) (unfold isUnderWay in refl)
+
+module _ (l : Log) (s : Service) (r : Reception) (a : Stands s r l) (w : waits (s .effort .progress) ≡ true) where
+  joins : startEnded r ≡ true → Stands (opened s 10) r l
+  joins e = record { going = opened-going s 10 w ∙ a .going; stage = go (a .stage) }
+    where
+      placed : Placed (s .effort .frame) 10 r
+      placed = let t = start-taken r e in inCode (t .phase) (omega (arith, t .nibbles, t .at)) (omega (arith, t .at)) (λ d. absurd (omega (arith, t .at)))
+
+      driven : drivesFrame (s .effort .progress) ≡ true → ⊥
+      driven d = unfold waits drivesFrame in waits-apart (s .effort .progress .stage) w d
+
+      go : At (s .effort) r l → At (opened s 10 .effort) r l
+      go (apart d u) = absurd (false≢true (sym u ∙ start-under-way r e))
+      go (receiving d f) = unfold opened withEffort withProgress atStage in driving (unfold drivesFrame isDriving in refl) f placed (omega arith)
+      go (starting d z u) = absurd (driven d)
+      go (driving d f p h) = absurd (driven d)
+      go (closing d b h) = absurd (driven d)
+
+  opens : underWay (r .place) ≡ false → Stands (opened s 0) r l
+  opens u = record { going = opened-going s 0 w ∙ a .going; stage = unfold opened withEffort withProgress atStage in starting (unfold drivesFrame isDriving in refl) refl u }
+
+started-stands : (l : Log) (s : Service) (autonomous : Bool) (line : Line) (r : Reception) → Stands s r l → Stands (started s autonomous line r) r l
+unfolding started
+started-stands l s autonomous line r a =
+    picked P (waits (s .effort .progress)) _ s
+    (λ w. picked P (startEnded r) (opened s 10) _ (λ e. joins l s r a w e)
+    (λ e. picked P (underWay (r .place)) s _ (λ u. a)
+    (λ u. picked P (both autonomous (free line)) (opened s 0) s (λ b. opens l s r a w u) (λ b. a))))
+    (λ w. a)
+  where
+    P : Service → Type 0
+    P x = Stands x r l
+
+follows-stands : (l : Log) (m : List ℕ) (k : Core) → StandsIn l k → StandsIn l (followsOn m k)
+unfolding followsOn startMade withService
+follows-stands l m k a = started-stands l _ _ _ _ (choice-stands l m (idleDue k) (idle-stands l k a))
+
+-- ---- a host write
+
+unfoldable isGoing : Ending → Bool
+isGoing Going = true
+isGoing Sent = false
+isGoing Exhausted = false
+isGoing Aborted = false
+isGoing Rearbitrated = false
+
+ends-between : (s : Service) (x : Ending) → stopped s ≡ x → isGoing x ≡ false → betweenAttempts (s .effort .progress) ≡ true
+ends-between s x e g = go (betweenAttempts (s .effort .progress)) refl
+  where
+    go : (b : Bool) → betweenAttempts (s .effort .progress) ≡ b → betweenAttempts (s .effort .progress) ≡ true
+    go true d = d
+    go false d =
+        let h : stopped s ≡ Going = unfold stopped in rw d in
+        absurd (false≢true (sym g ∙ ap isGoing (sym e ∙ h) ∙ (unfold isGoing in refl)))
+
+-- between attempts a service ends, and its frame with it: the model goes on receiving
+given-up : {e : Effort} {r : Reception} {l : Log} → At e r l → betweenAttempts (e .progress) ≡ true → At (resting .effort) r l
+given-up (apart d u) b = apart resting-apart u
+given-up (receiving d f) b = receiving resting-apart f
+given-up (starting d z u) b = apart resting-apart u
+given-up (driving d f p h) b = receiving resting-apart f
+given-up (closing d n h) b = absurd (false≢true (sym n ∙ b))
+
+settled-at : (s : Service) {r : Reception} {l : Log} → At (s .effort) r l → (x : Ending) → stopped s ≡ x → At (settled x s .effort) r l
+unfolding settled
+settled-at s a Going e = a
+settled-at s a Sent e = given-up a (ends-between s Sent e (unfold isGoing in refl))
+settled-at s a Exhausted e = given-up a (ends-between s Exhausted e (unfold isGoing in refl))
+settled-at s a Aborted e = given-up a (ends-between s Aborted e (unfold isGoing in refl))
+settled-at s a Rearbitrated e = given-up a (ends-between s Rearbitrated e (unfold isGoing in refl))
+
+asked-effort : (s : Service) (a v : ℕ) → serviceAsked s a v .effort ≡ s .effort
+unfolding serviceAsked rearCommanded
+asked-effort s a v =
+    picked P (eqb a command) _ _
+    (λ e. picked P (asksRearbitration v) (rearAsked s) s (λ d. unfold rearAsked in refl) (λ d. refl))
+    (λ e. picked P (aborts s a v) (abortAsked s) s (λ d. unfold abortAsked in refl) (λ d. refl))
+  where
+    P : Service → Type 0
+    P x = x .effort ≡ s .effort
+
+written-reception : (k : Core) (a v : ℕ) → coreWritten k a v .reception ≡ k .reception
+unfolding coreWritten modeCommanded idleAsked activated
+written-reception k a v =
+    picked P (eqb a command) _ _
+    (λ e. picked P (asksIdle v) _ _ (λ d. picked P (isActive (k .activity .mode)) (withActivity k (inMode Active true)) k (λ i. unfold withActivity in refl) (λ i. refl))
+    (λ d. picked P (asksActivation v) _ k (λ i. picked P (isActive (k .activity .mode)) (withActivity k (inMode Active false)) _ (λ j. unfold withActivity in refl) (λ j. refl)) (λ i. refl)))
+    (λ e. picked P (eqb a interruptReset) (flagsCleared k v) k (λ d. unfold flagsCleared withReport in refl) (λ d. refl))
+  where
+    P : Core → Type 0
+    P x = x .reception ≡ k .reception
+
+stopped-stands : (l : Log) (k : Core) (s : Service) → At (s .effort) (k .reception) l → StandsIn l (stoppedCore k s)
+unfolding stoppedCore
+stopped-stands l k s a =
+    idle-stands l (withService (withReport k (reportEnded (stopped s) (k .report) s)) (settled (stopped s) s))
+    (unfold withService withReport in record { going = settled-going s; stage = settled-at s a (stopped s) refl })
+
+byte-stands : (l : Log) (c : Controller) (a v : ℕ) → StandsIn l (c .core) → StandsIn l (byteWritten c a v .core)
+unfolding byteWritten
+byte-stands l c a v i =
+    stopped-stands l (coreWritten (c .core) a v) (serviceAsked (c .core .service) a v)
+    (rw (asked-effort (c .core .service) a v, written-reception (c .core) a v) (i .stage))
+
+pub apart-stands : (l : Log) → Stands resting quiet l
+apart-stands l = record { going = resting-going; stage = apart resting-apart quiet-not }
+
+slept-stands : (l : Log) (k : Core) → StandsIn l (slept k)
+unfolding slept
+slept-stands l k = apart-stands l
+
+written-stands : (l : Log) (c : Controller) (a v : ℕ) → StandsIn l (c .core) → StandsIn l (written c a v .core)
+unfolding written
+written-stands l c a v i =
+    picked P (resets a v) (resetAll c) _ (λ e. unfold resetAll resetCore in apart-stands l)
+    (λ e. picked P (sleeps a v) _ (byteWritten c a v) (λ d. slept-stands l (c .core)) (λ d. byte-stands l c a v i))
+  where
+    P : Controller → Type 0
+    P x = StandsIn l (x .core)
+
+-- ---- controller and log belong together
+
+pub record Logs (c : Controller) (l : Log) : Type 0 where
+  pub stands : StandsIn l (c .core)
+  pub empty : underWay (c .core .reception .place) ≡ false → l ≡ noLog
+
+-- with no frame under way the log is empty
+quiet-at : {e : Effort} {r : Reception} {l : Log} (n : Log) → At e r l → underWay (r .place) ≡ false → At e r n
+quiet-at n (apart d u) q = apart d u
+quiet-at {r = r} {l = l} n (receiving d f) q = absurd (false≢true (sym q ∙ invariant-under-way r (l .samples) (f .invariant)))
+quiet-at n (starting d z u) q = starting d z u
+quiet-at {r = r} {l = l} n (driving d f p h) q = absurd (false≢true (sym q ∙ invariant-under-way r (l .samples) (f .invariant)))
+quiet-at n (closing d b h) q = closing d b h
+
+logs-as : (c : Controller) (l : Log) → StandsIn l (c .core) → (u : Bool) → underWay (c .core .reception .place) ≡ u → Logs c (pick u l noLog)
+logs-as c l a true e = record { stands = a; empty = λ d. absurd (false≢true (sym d ∙ e)) }
+logs-as c l a false e = record { stands = record { going = a .going; stage = quiet-at noLog (a .stage) e }; empty = λ d. refl }
+
+module _ (c : Controller) (l : Log) (e : Event) where
+  logs-next : {n : Log} → StandsIn n (next c e .core) → pick (accepted c e) (logIn c l e) l ≡ n → Logs (next c e) (logNext c l e)
+  unfolding logNext
+  logs-next {n} a q = rw q (logs-as (next c e) n a (underWay (next c e .core .reception .place)) refl)
+
+  is-accepted : (value : ℕ) (d : Controller) → step c e ≡ accept value d → accepted c e ≡ true
+  unfolding accepted accept
+  is-accepted value d h = rw h
+
+  -- an accepted event that has no sample
+  plain-next : (d : Controller) → next c e ≡ d → StandsIn l (d .core) → accepted c e ≡ true → logIn c l e ≡ l → Logs (next c e) (logNext c l e)
+  plain-next d n a t q = logs-next {n = l} (rw n a) (rw (t, q))
+
+-- ---- the frame of the service
+
+own-in : (s : Stand) (t : Tally) → (isAway s ≡ false → Fits 30 (t .frame) × (t .frame .acknowledge ≡ false)) → drivesFrame (serviceIn s t .effort .progress) ≡ true
+    → Own (serviceIn s t .effort .frame)
+unfolding serviceIn isAway
+own-in away t g d = absurd (false≢true (sym resting-apart ∙ d))
+own-in between t g d = absurd (false≢true (unfold made atStage drivesFrame isDriving in d))
+own-in (opening start) t g d = let f = g refl in record { frame = t .frame; fits = f .0; silent = f .1; same = unfold made in refl }
+own-in (inside start levels) t g d = let f = g refl in record { frame = t .frame; fits = f .0; silent = f .1; same = unfold made in refl }
+
+own-of : (c : Controller) (t : Tally) → Joined c t → drivesFrame (c .core .service .effort .progress) ≡ true → Own (c .core .service .effort .frame)
+own-of c t j d =
+    let s : c .core .service ≡ serviceIn (t .stand) t = unfold serviceOf in (j .service) in
+    subst (λ (x : Service). Own (x .effort .frame)) (sym s) (own-in (t .stand) t (j .good .fits) (subst (λ (x : Service). drivesFrame (x .effort .progress) ≡ true) s d))
+
+-- ---- a slot
+
+input-small : (levels input : ℕ) → inputLevel levels input < 2
+unfolding inputLevel
+input-small levels input =
+    picked (λ (x : ℕ). x < 2) (eqb input 1) (levels / 2 % 2) _ (λ e. omega arith)
+    (λ e. picked (λ (x : ℕ). x < 2) (eqb input 2) (levels / 4 % 2) (levels % 2) (λ d. omega arith) (λ d. omega arith))
+
+pub sample-small : (m : List ℕ) (levels : ℕ) → sampleOf m levels < 2
+unfolding sampleOf sampled inverted
+sample-small m levels =
+    let i : ℕ = inputLevel levels (selectedInput (getD m diagnosisControl 0)) in
+    picked (λ (x : ℕ). x < 2) (invertsReceive (getD m lineControl 0)) (1 - i % 2) i (λ e. omega arith) (λ e. input-small levels (selectedInput (getD m diagnosisControl 0)))
+
+module _ (c : Controller) (t : Tally) (l : Log) (i : Logs c l) (j : Joined c t) where
+  judged-logs : (v : ℕ) → v < 2 → (m : List ℕ)
+      → StandsIn (sampledLog l v m) (coreJudged m (c .core) (judge (c .core .service .effort) v) (heard (c .core) (judge (c .core .service .effort) v) v) v)
+  unfolding coreJudged ending settledAfter
+  judged-logs v small m = sampled-stands (c .core) l v small m (own-of c t j) (i .empty) (i .stands .stage)
+
+  sampled-logs : (v : ℕ) → v < 2 → StandsIn (sampledLog l v (sampledSlot c v .memory)) (sampledSlot c v .core)
+  unfolding sampledSlot judgedSlot
+  sampled-logs v small =
+      let m : List ℕ = memoryJudged (c .memory) (c .core) (judge (c .core .service .effort) v) (heard (c .core) (judge (c .core .service .effort) v) v) in
+      follows-stands (sampledLog l v m) m (coreJudged m (c .core) (judge (c .core .service .effort) v) (heard (c .core) (judge (c .core .service .effort) v) v) v) (judged-logs v small m)
+
+  slot-logs : (levels : ℕ) → isActive (c .core .activity .mode) ≡ true → step c (Slot levels) ≡ answered (activeSlot c levels) → Logs (next c (Slot levels)) (logNext c l (Slot levels))
+  unfolding answered activeSlot logIn
+  slot-logs levels a h =
+      let v : ℕ = sampleOf (c .memory) levels in
+      let n : next c (Slot levels) ≡ sampledSlot c v = accepted-next c t (Slot levels) _ (activeSlot c levels) h in
+      let y : accepted c (Slot levels) ≡ true = is-accepted c l (Slot levels) _ (activeSlot c levels) h in
+      logs-next c l (Slot levels) {n = sampledLog l v (sampledSlot c v .memory)} (rw n (sampled-logs v (sample-small (c .memory) levels))) (rw (y, a, n))
+
+  pub next-logs : (e : Event) → Step c e → Logs (next c e) (logNext c l e)
+  next-logs e (refusal n h) =
+      logs-next c l e {n = l} (rw (refused-next c t e n h) (i .stands)) (rw (refused-not c t e n h))
+  next-logs Reset (reset h) =
+      plain-next c l Reset (resetAll c) (accepted-next c t Reset 0 (resetAll c) h) (unfold resetAll resetCore in apart-stands l) (is-accepted c l Reset 0 (resetAll c) h) (unfold logIn in refl)
+  next-logs (Write a v) (wrote h) =
+      plain-next c l (Write a v) (written c a (v % 256)) (accepted-next c t (Write a v) 0 (written c a (v % 256)) h) (written-stands l c a (v % 256) (i .stands)) (is-accepted c l (Write a v) 0 (written c a (v % 256)) h) (unfold logIn in refl)
+  next-logs (Read a) (gave value h) = plain-next c l (Read a) c (accepted-next c t (Read a) value c h) (i .stands) (is-accepted c l (Read a) value c h) (unfold logIn in refl)
+  next-logs (Slot levels) (went a h) = slot-logs levels a h
+  next-logs (Slot levels) (rested a h) =
+      plain-next c l (Slot levels) c (unfold restedSlot in accepted-next c t (Slot levels) _ c h) (i .stands) (unfold restedSlot in is-accepted c l (Slot levels) _ c h) (unfold logIn in rw a)

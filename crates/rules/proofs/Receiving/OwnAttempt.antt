@@ -1,0 +1,223 @@
+-- The model's own frame as its receiver takes it, up to the end of the data: there contention may be lost, and the frame go on as another module's.
+--   Judged == what a sample may be for the attempt        Own == the frame that a service sends        Placed == where its slot k stands for the receiver
+use Prim.Native.Nat.{ℕ, _+_, _-_, _*_, _/_, _%_, _≤_, _<_, min}
+use mathlib.Core.Bool.{Bool, true, false}
+use mathlib.Core.List.{List, _++_}
+use mathlib.Core.Path.{_≡_, refl, ap, _∙_, sym}
+use native.Mathlib.Omega.{arith}
+use borrow.Author.Tests.{lt-ltb, ne-eqb, eq-eqb, ltb-true, ltb-false, eqb-true}
+use lib.Dec.{eqb, ltb}
+use lib.ListN.{length, getD, take, List·getD-append}
+use Rattle.line.specs.LineCode.{lineCode}
+use Rattle.line.specs.Frame.{Frame, Fits, byteBits, start, endOfData, acknowledgeSlots, endOfFrame, carried, size}
+use Rattle.line.proofs.Laws.{picked, level-at}
+use Rattle.line.specs.Layout.{partOf, halfOf, inFive, bitOf, codedLevel, levelIn, levelOf}
+use Rattle.line.specs.declared.Part.{Part}
+use Rattle.line.specs.declared.Half.{Half}
+use Rattle.line.specs.declared.Half.the-variants.{Plain, First, Second}
+use Rattle.line.specs.declared.Part.the-variants as part
+use Rattle.rules.specs.Definitions.Mailbox.{coded}
+use Rattle.rules.specs.Definitions.Reception.{atPlace, commandEnded, withPlace, moved, entered, bitTaken, moreNibbles, nibbleTaken, followStart, followBody, followIn, followed, named}
+use Rattle.rules.specs.Definitions.Hearing.{receptionAfter, mostNibbles, hearSecondHalf, hearBody, hearStart, hearIn, hearFrame}
+use Rattle.rules.specs.Definitions.Attempt.{sentSlots, levelAt, due, overdriven, violated, recessiveLost, difference, judgeSlot}
+use Rattle.rules.specs.Definitions.Slots.{receptionJudged}
+use Rattle.rules.proofs.Sending.Frames.{level-coded}
+use Rattle.rules.specs.declared.Phase.{Phase}
+use Rattle.rules.specs.declared.Phase.the-variants.{Start, Body}
+use Rattle.rules.specs.declared.Reception.{Reception}
+use Rattle.rules.specs.declared.Hearing.the-variants.{Follows}
+use Rattle.rules.specs.declared.Coded.{Coded}
+use Rattle.rules.specs.declared.Verdict.{Verdict}
+use Rattle.rules.specs.declared.Verdict.the-variants.{Goes, Lost, Failed, Done}
+
+-- ---- the sender's judgement: contention is lost only in a plain bit or first half of identifier, command or data
+
+pub data Judged (x : Coded) (k v : ℕ) : Verdict → Type 0 where
+  goes : v ≡ due x k → Judged x k v Goes
+  lost : 10 ≤ k → k < 30 + 10 * x .n → inFive k < 4 → Judged x k v Lost
+  failed : {code : ℕ} → Judged x k v (Failed code)
+  done : Judged x k v Done
+
+module _ (x : Coded) (k v : ℕ) where
+  violated-judged : (p : Part) → Judged x k v (violated p)
+  unfolding violated
+  violated-judged part.Start = failed
+  violated-judged part.Identifier = failed
+  violated-judged part.Command = failed
+  violated-judged part.Data = failed
+  violated-judged part.Check = failed
+  violated-judged part.EndOfData = failed
+  violated-judged part.Acknowledge = failed
+  violated-judged part.EndOfFrame = failed
+  violated-judged part.After = failed
+
+  overdriven-judged : (10 ≤ k → k < 30 + 10 * x .n → inFive k < 4) → Judged x k v (overdriven (partOf (x .n) k))
+  unfolding partOf overdriven
+  overdriven-judged o =
+      picked P (ltb k 10) part.Start _ (λ e. failed) λ e₁.
+      picked P (ltb k 25) part.Identifier _ (λ e. open′ (ltb-false k 10 e₁) (omega (arith, ltb-true))) λ e₂.
+      picked P (ltb k 30) part.Command _ (λ e. open′ (ltb-false k 10 e₁) (omega (arith, ltb-true))) λ e₃.
+      picked P (ltb k (30 + 10 * x .n)) part.Data _ (λ e. open′ (ltb-false k 10 e₁) (ltb-true k (30 + 10 * x .n) e)) λ e₄.
+      picked P (ltb k (48 + 10 * x .n)) part.Check _ (λ e. failed) λ e₅.
+      picked P (ltb k (50 + 10 * x .n)) part.EndOfData _ (λ e. failed) λ e₆.
+      picked P (ltb k (52 + 10 * x .n)) part.Acknowledge _ (λ e. failed) λ e₇.
+      picked P (ltb k (60 + 10 * x .n)) part.EndOfFrame part.After (λ e. failed) (λ e. failed)
+    where
+      P : Part → Type 0
+      P p = Judged x k v (overdriven p)
+
+      open′ : 10 ≤ k → k < 30 + 10 * x .n → Judged x k v Lost
+      open′ a b = lost a b (o a b)
+
+  recessive-judged : Judged x k v (recessiveLost (halfOf (x .n) k) (partOf (x .n) k))
+  unfolding halfOf recessiveLost
+  recessive-judged =
+      picked P (ltb k 10) Plain _ (λ e. overdriven-judged (λ a b. absurd (omega (arith, ltb-true)))) λ e₁.
+      picked P (ltb k (50 + 10 * x .n)) _ Plain
+      (λ e₂. picked P (ltb (inFive k) 3) Plain _ (λ e. overdriven-judged (λ a b. omega (arith, ltb-true)))
+      (λ e. picked P (eqb (inFive k) 3) First Second (λ d. overdriven-judged (λ a b. omega (arith, eqb-true))) (λ d. violated-judged (partOf (x .n) k))))
+      (λ e₂. overdriven-judged (λ a b. absurd (omega (arith, ltb-false))))
+    where
+      P : Half → Type 0
+      P h = Judged x k v (recessiveLost h (partOf (x .n) k))
+
+  pub slot-judged : Judged x k v (judgeSlot x k v)
+  unfolding judgeSlot difference
+  slot-judged =
+      picked (Judged x k v) (eqb v (due x k)) _ _
+      (λ e. picked (Judged x k v) (ltb (k + 1) (size (x .n))) Goes Done (λ d. goes (eqb-true v (due x k) e)) (λ d. done))
+      (λ e. picked (Judged x k v) (eqb (levelAt x k) 1) (recessiveLost (halfOf (x .n) k) (partOf (x .n) k)) (violated (partOf (x .n) k))
+      (λ d. recessive-judged) (λ d. violated-judged (partOf (x .n) k)))
+
+-- ---- the model's own frame, up to the end of its data
+
+pub record Own (x : Coded) : Type 0 where
+  pub frame : Frame
+  pub fits : Fits 30 frame
+  pub silent : frame .acknowledge ≡ false
+  pub same : x ≡ coded frame
+
+pub level-start : (x : Coded) (k : ℕ) → k < 10 → levelAt x k ≡ getD start k 1
+unfolding levelAt sentSlots start
+level-start x k h =
+    List·getD-append start (lineCode (take (31 + 8 * (x .n % 31)) (byteBits (x .bytes))) ++ (endOfData ++ (acknowledgeSlots false ++ endOfFrame))) 1 k h
+
+pub due-level : (x : Coded) (k : ℕ) → k < 30 + 10 * x .n → due x k ≡ levelAt x k
+unfolding due
+due-level x k h = rw (ne-eqb k (51 + 10 * x .n) (λ e. omega arith))
+
+in-code : (f : Frame) (k : ℕ) → 10 ≤ k → k < 30 + 10 * length (f .bytes) → levelOf f k ≡ codedLevel f k
+unfolding levelOf partOf levelIn
+in-code f k a b =
+    picked P (ltb k 10) part.Start _ (λ e. absurd (omega (arith, ltb-true))) λ e₁.
+    picked P (ltb k 25) part.Identifier _ (λ e. refl) λ e₂.
+    picked P (ltb k 30) part.Command _ (λ e. refl) λ e₃.
+    picked P (ltb k (30 + 10 * length (f .bytes))) part.Data _ (λ e. refl) (λ e. absurd (omega (arith, ltb-false)))
+  where
+    P : Part → Type 0
+    P p = levelIn f k p ≡ codedLevel f k
+
+second-level : (f : Frame) (q k : ℕ) → k ≡ 10 + 5 * q + 4 → codedLevel f k ≡ 1 - getD (carried f) (4 * q + 3) 0
+unfolding codedLevel inFive bitOf
+second-level f q k e =
+    let i : (k - 10) % 5 ≡ 4 = omega arith in
+    let j : (k - 10) / 5 * 4 + min 4 3 ≡ 4 * q + 3 = omega arith in
+    rw (i, j)
+
+first-level : (f : Frame) (q k : ℕ) → k ≡ 10 + 5 * q + 4 → codedLevel f (k - 1) ≡ getD (carried f) (4 * q + 3) 0
+unfolding codedLevel inFive bitOf
+first-level f q k e =
+    let i : (k - 1 - 10) % 5 ≡ 3 = omega arith in
+    let j : (k - 1 - 10) / 5 * 4 + min 3 3 ≡ 4 * q + 3 = omega arith in
+    rw (i, j)
+
+own-level : (x : Coded) (o : Own x) (k : ℕ) → 10 ≤ k → k < 30 + 10 * x .n → levelAt x k ≡ codedLevel (o .frame) k
+own-level x o k a b =
+    let f : Frame = o .frame in
+    let n : x .n ≡ length (f .bytes) = ap (λ (y : Coded). y .n) (o .same) ∙ (unfold coded in refl) in
+    ap (λ (y : Coded). levelAt y k) (o .same) ∙ level-coded f (o .fits) (o .silent) k ∙ sym (level-at f k) ∙ in-code f k a (omega arith)
+
+-- a second half is unlike the first
+unlike : (x : Coded) → Own x → (q k : ℕ) → k ≡ 10 + 5 * q + 4 → k < 30 + 10 * x .n → levelAt x k ≡ levelAt x (k - 1) → ⊥
+unlike x o q k e h d =
+    let a : levelAt x k ≡ 1 - getD (carried (o .frame)) (4 * q + 3) 0 = own-level x o k (omega arith) h ∙ second-level (o .frame) q k e in
+    let b : levelAt x (k - 1) ≡ getD (carried (o .frame)) (4 * q + 3) 0 = own-level x o (k - 1) (omega arith) (omega arith) ∙ first-level (o .frame) q k e in
+    omega arith
+
+pub data Placed (x : Coded) (k : ℕ) (r : Reception) : Type 0 where
+  inStart : r .place .phase ≡ Start → r .place .at ≡ k → k ≤ 9 → r .nibbles ≡ 0 → Placed x k r
+  inCode : r .place .phase ≡ Body → k ≡ 10 + 5 * r .nibbles + r .place .at → r .place .at ≤ 4 → (r .place .at ≡ 4 → r .bits % 2 ≡ levelAt x (k - 1)) → Placed x k r
+
+module _ (x : Coded) (k : ℕ) (r : Reception) (v : ℕ) where
+  hear-start : r .place .phase ≡ Start → r .place .at ≡ k → k ≤ 9 → v ≡ levelAt x k → hearFrame r 30 v ≡ Follows
+  unfolding hearFrame hearIn hearStart
+  hear-start p a h e = rw (p, a, eq-eqb v (getD start k 1) (e ∙ level-start x k (omega arith)))
+
+  hear-open : r .place .phase ≡ Body → r .place .at < 4 → hearFrame r 30 v ≡ Follows
+  unfolding hearFrame hearIn hearBody
+  hear-open p a = rw (p, lt-ltb (r .place .at) 4 a)
+
+  hear-second : r .place .phase ≡ Body → r .place .at ≡ 4 → r .nibbles < 67 → (v ≡ r .bits % 2 → ⊥) → hearFrame r 30 v ≡ Follows
+  unfolding hearFrame hearIn hearBody hearSecondHalf mostNibbles
+  hear-second p a n d = rw (p, a, ne-eqb v (r .bits % 2) d, lt-ltb (r .nibbles) (7 + 2 * 30) n)
+
+  second-unlike : Own x → k < 30 + 10 * x .n → v ≡ levelAt x k → k ≡ 10 + 5 * r .nibbles + r .place .at → r .place .at ≡ 4 → r .bits % 2 ≡ levelAt x (k - 1) → v ≡ r .bits % 2 → ⊥
+  second-unlike o h e q a b d = unlike x o (r .nibbles) k (omega arith) h (sym e ∙ d ∙ b)
+
+  -- a slot of the own frame that is sampled as driven follows
+  pub own-follows : Own x → k < 30 + 10 * x .n → x .n ≤ 30 → v ≡ levelAt x k → Placed x k r → hearFrame r 30 v ≡ Follows
+  own-follows o h n e (inStart p a i z) = hear-start p a i e
+  own-follows o h n e (inCode p q i b) = go (ltb (r .place .at) 4) refl
+    where
+      go : (t : Bool) → ltb (r .place .at) 4 ≡ t → hearFrame r 30 v ≡ Follows
+      go true d = hear-open p (ltb-true _ _ d)
+      go false d =
+          let a : r .place .at ≡ 4 = omega (arith, ltb-false) in
+          hear-second p a (omega arith) (second-unlike o h e q a (b a))
+
+  -- one that is lost follows, whatever it was sampled as
+  pub lost-follows : 10 ≤ k → inFive k < 4 → Placed x k r → hearFrame r 30 v ≡ Follows
+  lost-follows h i (inStart p a j z) = absurd (omega arith)
+  lost-follows h i (inCode p q j b) = hear-open p (unfold inFive in omega (arith, i))
+
+  followed-in : (p : Phase) → r .place .phase ≡ p → followed r v ≡ followIn p r v
+  unfolding followed
+  followed-in p e = ap (λ (q : Phase). followIn q r v) e
+
+  placed-start : r .place .phase ≡ Start → r .place .at ≡ k → k ≤ 9 → r .nibbles ≡ 0 → Placed x (k + 1) (followed r v)
+  unfolding followIn followStart moved entered withPlace atPlace
+  placed-start p a h z =
+      rw (followed-in Start p)
+      (picked (Placed x (k + 1)) (ltb (r .place .at) 9) (moved r) (entered r Body)
+      (λ e. inStart p (omega arith) (omega (arith, ltb-true)) z)
+      (λ e. inCode refl (omega (arith, ltb-false)) (omega arith) (λ d. absurd (omega arith))))
+
+  placed-code : r .place .phase ≡ Body → k ≡ 10 + 5 * r .nibbles + r .place .at → r .place .at ≤ 4 → r .nibbles < 67
+      → v < 2 → v ≡ levelAt x k → (r .place .at ≡ 4 → v ≡ r .bits % 2 → ⊥) → Placed x (k + 1) (followed r v)
+  unfolding followIn followBody bitTaken nibbleTaken moreNibbles withPlace atPlace
+  placed-code p q h n small e d =
+      rw (followed-in Body p)
+      (picked (Placed x (k + 1)) (ltb (r .place .at) 4) (bitTaken r v) _
+      (λ i. inCode p (omega arith) (omega (arith, ltb-true)) (λ j. bit-last))
+      (λ i. rw (ne-eqb v (r .bits % 2) (d (omega (arith, ltb-false))), lt-ltb (r .nibbles) 67 n) (inCode refl (omega (arith, ltb-false)) (omega arith) (λ j. absurd (omega arith)))))
+    where
+      bit-last : (r .bits % 8 * 2 + v % 2) % 2 ≡ levelAt x (k + 1 - 1)
+      bit-last = let a : (r .bits % 8 * 2 + v % 2) % 2 ≡ v = omega arith in let b : k + 1 - 1 ≡ k = omega arith in rw (a, b) e
+
+  -- and the next slot is at its place
+  pub placed-next : Own x → k < 30 + 10 * x .n → x .n ≤ 30 → v < 2 → v ≡ levelAt x k → Placed x k r → Placed x (k + 1) (followed r v)
+  placed-next o h n small e (inStart p a i z) = placed-start p a i z
+  placed-next o h n small e (inCode p q i b) = placed-code p q i (omega arith) small e (λ a. second-unlike o h e q a (b a))
+
+pub own-small : (x : Coded) → Own x → x .n ≤ 30
+own-small x o = let n : x .n ≡ length (o .frame .bytes) = ap (λ (y : Coded). y .n) (o .same) ∙ (unfold coded in refl) in omega (arith, o .fits .size)
+
+placed-named : {x : Coded} {k : ℕ} {r : Reception} (m : List ℕ) → Placed x k r → Placed x k (named r m)
+unfolding named
+placed-named m (inStart p a h z) = inStart p a h z
+placed-named m (inCode p q h b) = inCode p q h b
+
+pub placed-judged : {x : Coded} {k : ℕ} (m : List ℕ) (r : Reception) (v : ℕ) → Placed x k (followed r v) → Placed x k (receptionJudged m Follows r v)
+unfolding receptionJudged receptionAfter
+placed-judged {x} {k} m r v p =
+    picked (Placed x k) (commandEnded (followed r v)) (named (followed r v) m) (followed r v) (λ e. placed-named m p) (λ e. p)

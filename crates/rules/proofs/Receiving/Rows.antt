@@ -1,0 +1,183 @@
+-- Rows of slots and bits, part by part: what a nibble adds to them, and where the slots of a frame begin as others do.
+use Prim.Native.Nat.{ℕ, zero, suc, _+_, _-_, _*_, _/_, _%_, _^_, _≤_, _<_}
+use mathlib.Core.List.{List, [], _∷_, _++_, append-assoc}
+use mathlib.Core.Path.{_≡_, refl, ap, _∙_, sym}
+use native.Mathlib.Omega.{arith}
+use borrow.Author.Tests.{eqb-true, eqb-false}
+use lib.Dec.{eqb}
+use lib.ListN.{length, getD, set, take, drop, length-append, take-append-drop}
+use lib.Seq.{take-at, length-take-le, set-split, split-at}
+use Rattle.line.specs.Bits.{bits}
+use Rattle.line.specs.LineCode.{lineCode}
+use Rattle.line.specs.Frame.{byteBits}
+use Rattle.line.proofs.Laws.{bits-length, bits-split, bits-mod, code-length, byteBits-append, picked}
+use Rattle.rules.specs.Definitions.Reception.{withNibble}
+
+-- ---- bytes as bits
+
+pub bytes-length : (s : List ℕ) → length (byteBits s) ≡ 8 * length s
+unfolding byteBits
+bytes-length [] = refl
+bytes-length (b ∷ s) = let k = bytes-length s in rw (length-append (bits 8 b) (byteBits s), bits-length 8 b) (omega arith)
+
+-- so many whole nibbles
+pub nibbles-length : (bytes : List ℕ) (j : ℕ) → length bytes ≡ 34 → j ≤ 67 → length (take (4 * j) (byteBits bytes)) ≡ 4 * j
+nibbles-length bytes j e h = length-take-le (4 * j) (byteBits bytes) (omega (arith, bytes-length bytes))
+
+pub nibbles-slots : (bytes : List ℕ) (j : ℕ) → length bytes ≡ 34 → j ≤ 67 → length (lineCode (take (4 * j) (byteBits bytes))) ≡ 5 * j
+nibbles-slots bytes j e h = rw (code-length, nibbles-length bytes j e h) (omega arith)
+
+-- n bytes before a byte b
+module _ (p : List ℕ) (b : ℕ) (q : List ℕ) where
+  cut-bits : byteBits (p ++ (b ∷ q)) ≡ byteBits p ++ (bits 4 (b / 16) ++ (bits 4 b ++ byteBits q))
+  unfolding byteBits
+  cut-bits = rw (byteBits-append p (b ∷ q), bits-split 4 4 b, append-assoc (bits 4 (b / 16)))
+
+  pub take-half : (m : ℕ) → m ≡ 8 * length p + 4 → take m (byteBits (p ++ (b ∷ q))) ≡ byteBits p ++ bits 4 (b / 16)
+  take-half m e =
+      let l : length (byteBits p ++ bits 4 (b / 16)) ≡ m = rw (length-append (byteBits p), bits-length, bytes-length) (omega arith) in
+      rw (cut-bits, ← (append-assoc (byteBits p) (bits 4 (b / 16)) (bits 4 b ++ byteBits q))) (take-at (byteBits p ++ bits 4 (b / 16)) (bits 4 b ++ byteBits q) m l)
+
+  pub take-byte : (m : ℕ) → m ≡ 8 * length p + 8 → take m (byteBits (p ++ (b ∷ q))) ≡ byteBits p ++ (bits 4 (b / 16) ++ bits 4 b)
+  take-byte m e =
+      let w : List ℕ = byteBits p ++ (bits 4 (b / 16) ++ bits 4 b) in
+      let l : length w ≡ m = rw (length-append (byteBits p), length-append (bits 4 (b / 16)), bits-length, bits-length, bytes-length) (omega arith) in
+      let g : byteBits (p ++ (b ∷ q)) ≡ w ++ byteBits q = cut-bits ∙ simp append-assoc in
+      rw g (take-at w (byteBits q) m l)
+
+pub take-bytes : (n : ℕ) (s : List ℕ) (m : ℕ) → m ≡ 8 * n → n ≤ length s → take m (byteBits s) ≡ byteBits (take n s)
+take-bytes n s m e h =
+    let l : length (byteBits (take n s)) ≡ m = rw (bytes-length, length-take-le n s h) (sym e) in
+    let g : byteBits s ≡ byteBits (take n s) ++ byteBits (drop n s) = ap byteBits (sym (take-append-drop n s)) ∙ byteBits-append (take n s) (drop n s) in
+    rw g (take-at (byteBits (take n s)) (byteBits (drop n s)) m l)
+
+-- ---- a nibble more
+
+module _ (bytes : List ℕ) (j x : ℕ) (long : length bytes ≡ 34) (h : j ≤ 66) where
+  even-nibble : j % 2 ≡ 0 → take (4 * (j + 1)) (byteBits (set bytes (j / 2 % 34) (x % 16 * 16))) ≡ take (4 * j) (byteBits bytes) ++ bits 4 x
+  even-nibble e =
+      let i : j / 2 % 34 ≡ j / 2 = omega arith in
+      let l : length (take (j / 2) bytes) ≡ j / 2 = length-take-le (j / 2) bytes (omega arith) in
+      let q : x % 16 * 16 / 16 ≡ x % 16 = omega arith in
+      rw (i, set-split bytes (j / 2) (x % 16 * 16) (omega arith), take-half (take (j / 2) bytes) (x % 16 * 16) (drop (suc (j / 2)) bytes) (4 * (j + 1)) (omega arith), take-bytes (j / 2) bytes (4 * j) (omega arith) (omega arith), q)
+      (ap (λ (t : List ℕ). byteBits (take (j / 2) bytes) ++ t) (bits-mod 4 x))
+
+  odd-nibble : j % 2 ≡ 1 → take (4 * (j + 1)) (byteBits (set bytes (j / 2 % 34) (getD bytes (j / 2 % 34) 0 / 16 * 16 + x % 16))) ≡ take (4 * j) (byteBits bytes) ++ bits 4 x
+  odd-nibble e =
+      let i : j / 2 % 34 ≡ j / 2 = omega arith in
+      let l : length (take (j / 2) bytes) ≡ j / 2 = length-take-le (j / 2) bytes (omega arith) in
+      let b : ℕ = getD bytes (j / 2) 0 in
+      let p : List ℕ = take (j / 2) bytes in
+      let r : List ℕ = drop (suc (j / 2)) bytes in
+      let q : (b / 16 * 16 + x % 16) / 16 ≡ b / 16 = omega arith in
+      let m : (b / 16 * 16 + x % 16) % 16 ≡ x % 16 = omega arith in
+      let w : bits 4 (b / 16 * 16 + x % 16) ≡ bits 4 x = sym (bits-mod 4 (b / 16 * 16 + x % 16)) ∙ ap (λ (t : ℕ). bits 4 t) m ∙ bits-mod 4 x in
+      let before : take (4 * j) (byteBits bytes) ≡ byteBits p ++ bits 4 (b / 16) = ap (λ (t : List ℕ). take (4 * j) (byteBits t)) (split-at bytes (j / 2) 0 (omega arith)) ∙ take-half p b r (4 * j) (omega arith) in
+      rw i
+      (ap (λ (t : List ℕ). take (4 * (j + 1)) (byteBits t)) (set-split bytes (j / 2) (b / 16 * 16 + x % 16) (omega arith))
+      ∙ take-byte p (b / 16 * 16 + x % 16) r (4 * (j + 1)) (omega arith)
+      ∙ rw (q, w, before) (sym (append-assoc (byteBits p) (bits 4 (b / 16)) (bits 4 x))))
+
+  pub nibble-added : take (4 * (j + 1)) (byteBits (withNibble bytes j x)) ≡ take (4 * j) (byteBits bytes) ++ bits 4 x
+  unfolding withNibble
+  nibble-added =
+      picked (λ (t : List ℕ). take (4 * (j + 1)) (byteBits t) ≡ take (4 * j) (byteBits bytes) ++ bits 4 x) (eqb (j % 2) 0) (set bytes (j / 2 % 34) (x % 16 * 16)) (set bytes (j / 2 % 34) (getD bytes (j / 2 % 34) 0 / 16 * 16 + x % 16))
+      (λ e. even-nibble (eqb-true (j % 2) 0 e)) (λ e. let d = eqb-false (j % 2) 0 e in odd-nibble (omega arith))
+
+-- four bits, and the opposite of the last
+pub nibble-slots : (x v : ℕ) → v < 2 → (v ≡ x % 2 → ⊥) → lineCode (bits 4 x) ≡ bits 4 x ++ (v ∷ [])
+unfolding lineCode bits
+nibble-slots x v h d = let e : 1 - x / 1 % 2 ≡ v = omega arith in rw e
+
+-- a bit more
+last-bit : (b v : ℕ) → v < 2 → bits 1 (b % 8 * 2 + v % 2) ≡ v ∷ []
+unfolding bits
+last-bit b v h = let e : (b % 8 * 2 + v % 2) / 1 % 2 ≡ v = omega arith in rw e
+
+low-bits : (a b : ℕ) → a ≤ 3 → bits a (b % 8) ≡ bits a b
+low-bits a b h = sym (bits-mod a (b % 8)) ∙ ap (λ (x : ℕ). bits a x) (small a h) ∙ bits-mod a b
+  where
+    small : (a : ℕ) → a ≤ 3 → b % 8 % 2 ^ a ≡ b % 2 ^ a
+    small zero h = omega arith
+    small (suc zero) h = omega arith
+    small (suc (suc zero)) h = omega arith
+    small (suc (suc (suc zero))) h = omega arith
+    small (suc (suc (suc (suc a)))) h = absurd (omega arith)
+
+pub bit-added : (at b v : ℕ) → at ≤ 3 → v < 2 → bits (at + 1) (b % 8 * 2 + v % 2) ≡ bits at b ++ (v ∷ [])
+bit-added at b v h g =
+    let q : (b % 8 * 2 + v % 2) / 2 ≡ b % 8 = omega arith in
+    bits-split at 1 (b % 8 * 2 + v % 2) ∙ rw (q, last-bit b v g, low-bits at b h)
+
+-- ---- slots of a frame that begin as other slots do
+
+pub cons-head : {x y : ℕ} {s t : List ℕ} → x ∷ s ≡ y ∷ t → x ≡ y
+cons-head {x} {y} {s} {t} e = ap (λ (l : List ℕ). getD l 0 x) e
+
+pub cons-tail : {x y : ℕ} {s t : List ℕ} → x ∷ s ≡ y ∷ t → s ≡ t
+cons-tail {x} {y} {s} {t} e = ap (λ (l : List ℕ). drop 1 l) e
+
+pub cons-eq : {x y : ℕ} {s t : List ℕ} → x ≡ y → s ≡ t → x ∷ s ≡ y ∷ t
+cons-eq e d = λ i. e i ∷ d i
+
+pub cancel : (p : List ℕ) {s t : List ℕ} → p ++ s ≡ p ++ t → s ≡ t
+cancel [] e = e
+cancel (x ∷ p) e = cancel p (cons-tail e)
+
+-- whole nibbles b; more bits c, up to the pair 00
+pub record Opens (b c x t : List ℕ) : Type 0 where
+  pub rest : List ℕ
+  pub bits-are : c ≡ b ++ rest
+  pub slots-are : x ≡ lineCode rest ++ (0 ∷ 0 ∷ t)
+  pub long : length rest % 4 ≡ 3
+
+pub opens : (b c x t : List ℕ) → length b % 4 ≡ 0 → length c % 4 ≡ 3 → lineCode b ++ x ≡ lineCode c ++ (0 ∷ 0 ∷ t) → Opens b c x t
+unfolding lineCode
+opens [] c x t h g e = record { rest = c; bits-are = refl; slots-are = e; long = g }
+opens (p ∷ []) c x t h g e = absurd (omega arith)
+opens (p ∷ q ∷ []) c x t h g e = absurd (omega arith)
+opens (p ∷ q ∷ r ∷ []) c x t h g e = absurd (omega arith)
+opens (p ∷ q ∷ r ∷ y ∷ b) [] x t h g e = absurd (omega arith)
+opens (p ∷ q ∷ r ∷ y ∷ b) (p′ ∷ []) x t h g e = absurd (omega arith)
+opens (p ∷ q ∷ r ∷ y ∷ b) (p′ ∷ q′ ∷ []) x t h g e = absurd (omega arith)
+opens (p ∷ q ∷ r ∷ y ∷ b) (p′ ∷ q′ ∷ r′ ∷ []) x t h g e =
+    let first : y ≡ 0 = cons-head (cons-tail (cons-tail (cons-tail e))) in
+    let second : 1 - y ≡ 0 = cons-head (cons-tail (cons-tail (cons-tail (cons-tail e)))) in
+    absurd (omega arith)
+opens (p ∷ q ∷ r ∷ y ∷ b) (p′ ∷ q′ ∷ r′ ∷ y′ ∷ c) x t h g e =
+    let k = opens b c x t (omega arith) (omega arith) (cons-tail (cons-tail (cons-tail (cons-tail (cons-tail e))))) in
+    let e₁ = cons-head e in
+    let e₂ = cons-head (cons-tail e) in
+    let e₃ = cons-head (cons-tail (cons-tail e)) in
+    let e₄ = cons-head (cons-tail (cons-tail (cons-tail e))) in
+    record { rest = k .rest; bits-are = cons-eq (sym e₁) (cons-eq (sym e₂) (cons-eq (sym e₃) (cons-eq (sym e₄) (k .bits-are)))); slots-are = k .slots-are; long = k .long }
+
+-- two rows of bits up to the pair 00
+pub same-code : (b c x t : List ℕ) → length b % 4 ≡ 3 → length c % 4 ≡ 3 → lineCode b ++ (0 ∷ 0 ∷ x) ≡ lineCode c ++ (0 ∷ 0 ∷ t) → (b ≡ c) × (x ≡ t)
+unfolding lineCode
+same-code [] c x t h g e = absurd (omega arith)
+same-code (p ∷ []) c x t h g e = absurd (omega arith)
+same-code (p ∷ q ∷ []) c x t h g e = absurd (omega arith)
+same-code (p ∷ q ∷ r ∷ b) [] x t h g e = absurd (omega arith)
+same-code (p ∷ q ∷ r ∷ b) (p′ ∷ []) x t h g e = absurd (omega arith)
+same-code (p ∷ q ∷ r ∷ b) (p′ ∷ q′ ∷ []) x t h g e = absurd (omega arith)
+same-code (p ∷ q ∷ r ∷ []) (p′ ∷ q′ ∷ r′ ∷ []) x t h g e =
+    let e₁ = cons-head e in
+    let e₂ = cons-head (cons-tail e) in
+    let e₃ = cons-head (cons-tail (cons-tail e)) in
+    (cons-eq e₁ (cons-eq e₂ (cons-eq e₃ refl)), cons-tail (cons-tail (cons-tail (cons-tail (cons-tail e)))))
+same-code (p ∷ q ∷ r ∷ []) (p′ ∷ q′ ∷ r′ ∷ y′ ∷ c) x t h g e =
+    let first : 0 ≡ y′ = cons-head (cons-tail (cons-tail (cons-tail e))) in
+    let second : 0 ≡ 1 - y′ = cons-head (cons-tail (cons-tail (cons-tail (cons-tail e)))) in
+    absurd (omega arith)
+same-code (p ∷ q ∷ r ∷ y ∷ b) (p′ ∷ q′ ∷ r′ ∷ []) x t h g e =
+    let first : y ≡ 0 = cons-head (cons-tail (cons-tail (cons-tail e))) in
+    let second : 1 - y ≡ 0 = cons-head (cons-tail (cons-tail (cons-tail (cons-tail e)))) in
+    absurd (omega arith)
+same-code (p ∷ q ∷ r ∷ y ∷ b) (p′ ∷ q′ ∷ r′ ∷ y′ ∷ c) x t h g e =
+    let k = same-code b c x t (omega arith) (omega arith) (cons-tail (cons-tail (cons-tail (cons-tail (cons-tail e))))) in
+    let e₁ = cons-head e in
+    let e₂ = cons-head (cons-tail e) in
+    let e₃ = cons-head (cons-tail (cons-tail e)) in
+    let e₄ = cons-head (cons-tail (cons-tail (cons-tail e))) in
+    (cons-eq e₁ (cons-eq e₂ (cons-eq e₃ (cons-eq e₄ (k .0)))), k .1)

@@ -1,0 +1,6 @@
+pub mod Frames
+pub mod Join
+pub mod Follow
+pub mod Raised
+pub mod Bound
+pub mod Demand3

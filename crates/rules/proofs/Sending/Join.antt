@@ -1,0 +1,429 @@
+-- The controller's service and the tally, joined by one equation: each part of a step commutes with it.
+use Prim.Native.Nat.{ℕ, _+_, _-_, _*_, _/_, _%_, _≤_, min}
+use mathlib.Core.Bool.{Bool, true, false, false≢true}
+use mathlib.Core.List.{List, [], _∷_, _++_}
+use mathlib.Core.Path.{_≡_, refl, ap, _∙_, sym}
+use native.Mathlib.Nat.{add-zero}
+use native.Mathlib.Omega.{arith}
+use borrow.Author.Tests.{ltb-true, ltb-false}
+use lib.Dec.{eqb, ltb}
+use lib.ListN.{length, getD, length-append}
+use Rattle.line.specs.Bits.{pick}
+use Rattle.line.specs.Frame.{Frame, size}
+use Rattle.line.specs.Layout.{partOf, halfOf}
+use Rattle.line.specs.declared.Part.{Part}
+use Rattle.line.specs.declared.Part.the-variants as part
+use Rattle.line.specs.declared.Half.{Half}
+use Rattle.line.specs.declared.Half.the-variants.{Plain, First, Second}
+use Rattle.rules.specs.Definitions.Registers.{both, command, transmitControl, autonomous, asksRearbitration}
+use Rattle.rules.specs.Definitions.Channels.{acknowledgeAsked, base, cher}
+use Rattle.rules.specs.Definitions.Mailbox.{coded, codedBytes}
+use Rattle.rules.specs.Definitions.Reception.{free, underWay, startEnded}
+use Rattle.rules.specs.Definitions.Attempt as attempt
+use Rattle.rules.specs.Definitions.Attempt.{largest, moreSlots, moreAttempts, noCounts, atStage, inService, isServing, betweenAttempts, isBetween, waits, isWaiting, drivesFrame, isDriving, levelAt, due, overdriven, violated, recessiveLost, difference, judgeSlot, judge, withProgress, slotSpent, lostSpent, errorSpent, advance, exhausted}
+use Rattle.rules.specs.Definitions.Service.{resting, withEffort, stopped, endingOf, settled, chosen, choiceOf, opened, started, abortAsked, rearAsked, aborts}
+use Rattle.rules.specs.Definitions.Slots.{serviceJudged}
+use Rattle.rules.specs.Definitions.Host.{rearCommanded, serviceAsked}
+use Rattle.rules.specs.Statements.Tally as tally
+use Rattle.rules.specs.Statements.Tally.{Stand, away, between, opening, inside, Tally, none, goes, contended, failed, sent, asksAcknowledge, dueLevel, openHalf, arbitrated, verdict, tallied, judgedAs, countedIn, countedT, givenUp, endedIn, endedT, chosenT, choiceT, standing, startIn, startT, isAway, asking, asks, askedIn, askedT}
+use Rattle.rules.specs.declared.Choice.{Choice}
+use Rattle.rules.specs.declared.Choice.the-variants.{Nothing, Lowest}
+use Rattle.rules.specs.declared.Line.{Line}
+use Rattle.rules.specs.declared.Reception.{Reception}
+use Rattle.rules.specs.declared.Timeslots.{Timeslots}
+use Rattle.rules.specs.declared.Attempts.{Attempts}
+use Rattle.rules.specs.declared.Coded.{Coded}
+use Rattle.rules.specs.declared.Stage.{Stage}
+use Rattle.rules.specs.declared.Stage.the-variants.{Waiting, Opening, Sending}
+use Rattle.rules.specs.declared.Counters.{Counters}
+use Rattle.rules.specs.declared.Service.{Service}
+use Rattle.rules.specs.declared.Verdict.{Verdict}
+use Rattle.rules.specs.declared.Verdict.the-variants.{Unjudged, Goes, Lost, Failed, Done}
+use Rattle.rules.specs.declared.Ending.{Ending}
+use Rattle.rules.specs.declared.Ending.the-variants.{Going, Exhausted, Aborted, Rearbitrated}
+
+-- ---- the service that a tally stands for; stored counts stop at their largest
+
+unfoldable pub countersOf : Tally → Counters
+countersOf t =
+    record {
+      slots = record { 0 = min (t .slots) largest };
+      lost = record { 0 = min (t .lost) largest };
+      errors = record { 0 = min (t .errors) largest };
+    }
+
+unfoldable pub made : Tally → Stage → ℕ → Service
+made t stage at =
+    record {
+      channel = t .channel;
+      abort = t .abort;
+      rear = t .rear;
+      effort = record { frame = coded (t .frame); setting = t .setting; progress = atStage stage at; counters = countersOf t };
+    }
+
+unfoldable pub serviceIn : Stand → Tally → Service
+serviceIn away t = resting
+serviceIn between t = made t Waiting 0
+serviceIn (opening start) t = made t Opening start
+serviceIn (inside start levels) t = made t Sending (start + length levels)
+
+unfoldable pub serviceOf : Tally → Service
+serviceOf t = serviceIn (t .stand) t
+
+-- ---- the judgement
+
+unfoldable pub kind : Verdict → tally.Verdict
+kind Unjudged = goes
+kind Goes = goes
+kind Lost = contended
+kind (Failed code) = failed
+kind Done = sent
+
+-- a verdict of an attempt that is under way
+pub data Judged : Verdict → Type 0 where
+  went : Judged Goes
+  lost : Judged Lost
+  broke : {code : ℕ} → Judged (Failed code)
+  done : Judged Done
+
+overdriven-kind : (p : Part) → kind (overdriven p) ≡ pick (arbitrated p) contended failed
+unfolding kind overdriven arbitrated
+overdriven-kind part.Start = refl
+overdriven-kind part.Identifier = refl
+overdriven-kind part.Command = refl
+overdriven-kind part.Data = refl
+overdriven-kind part.Check = refl
+overdriven-kind part.EndOfData = refl
+overdriven-kind part.Acknowledge = refl
+overdriven-kind part.EndOfFrame = refl
+overdriven-kind part.After = refl
+
+violated-kind : (p : Part) → kind (violated p) ≡ failed
+unfolding kind violated
+violated-kind part.Start = refl
+violated-kind part.Identifier = refl
+violated-kind part.Command = refl
+violated-kind part.Data = refl
+violated-kind part.Check = refl
+violated-kind part.EndOfData = refl
+violated-kind part.Acknowledge = refl
+violated-kind part.EndOfFrame = refl
+violated-kind part.After = refl
+
+lost-kind : (h : Half) (p : Part) → kind (recessiveLost h p) ≡ pick (both (openHalf h) (arbitrated p)) contended failed
+unfolding recessiveLost openHalf
+lost-kind Plain p = overdriven-kind p
+lost-kind First p = overdriven-kind p
+lost-kind Second p = violated-kind p
+
+difference-kind : (n k d : ℕ) → kind (difference n k d) ≡ pick (both (eqb d 1) (both (openHalf (halfOf n k)) (arbitrated (partOf n k)))) contended failed
+unfolding difference
+difference-kind n k d = go (eqb d 1)
+  where
+    go : (t : Bool) → kind (pick t (recessiveLost (halfOf n k) (partOf n k)) (violated (partOf n k))) ≡ pick (both t (both (openHalf (halfOf n k)) (arbitrated (partOf n k)))) contended failed
+    go true = lost-kind (halfOf n k) (partOf n k)
+    go false = violated-kind (partOf n k)
+
+asks-same : (f : Frame) → acknowledgeAsked (getD (codedBytes f) 1 0) ≡ asksAcknowledge f
+unfolding acknowledgeAsked asksAcknowledge codedBytes
+asks-same f = let e : (f .identifier % 16 * 16 + f .command) / 4 % 2 ≡ f .command / 4 % 2 = omega arith in rw e
+
+due-same : (f : Frame) (k : ℕ) → due (coded f) k ≡ dueLevel f k (levelAt (coded f) k)
+unfolding due dueLevel coded
+due-same f k = rw (asks-same f)
+
+-- driven and sampled levels are judged alike
+pub kind-same : (f : Frame) (k v : ℕ) → kind (judgeSlot (coded f) k v) ≡ verdict f k (levelAt (coded f) k) v
+unfolding judgeSlot verdict coded
+kind-same f k v =
+    rw (due-same f k) (go (eqb v (dueLevel f k (levelAt (coded f) k))) (ltb (k + 1) (size (length (f .bytes)))))
+  where
+    go : (a b : Bool) → kind (pick a (pick b Goes Done) (difference (length (f .bytes)) k (levelAt (coded f) k)))
+        ≡ pick a (pick b goes sent) (pick (both (eqb (levelAt (coded f) k) 1) (both (openHalf (halfOf (length (f .bytes)) k)) (arbitrated (partOf (length (f .bytes)) k)))) contended failed)
+    go true true = unfold kind in refl
+    go true false = unfold kind in refl
+    go false b = difference-kind (length (f .bytes)) k (levelAt (coded f) k)
+
+overdriven-judged : (p : Part) → Judged (overdriven p)
+unfolding overdriven
+overdriven-judged part.Start = broke
+overdriven-judged part.Identifier = lost
+overdriven-judged part.Command = lost
+overdriven-judged part.Data = lost
+overdriven-judged part.Check = broke
+overdriven-judged part.EndOfData = broke
+overdriven-judged part.Acknowledge = broke
+overdriven-judged part.EndOfFrame = broke
+overdriven-judged part.After = broke
+
+violated-judged : (p : Part) → Judged (violated p)
+unfolding violated
+violated-judged part.Start = broke
+violated-judged part.Identifier = broke
+violated-judged part.Command = broke
+violated-judged part.Data = broke
+violated-judged part.Check = broke
+violated-judged part.EndOfData = broke
+violated-judged part.Acknowledge = broke
+violated-judged part.EndOfFrame = broke
+violated-judged part.After = broke
+
+lost-judged : (h : Half) (p : Part) → Judged (recessiveLost h p)
+unfolding recessiveLost
+lost-judged Plain p = overdriven-judged p
+lost-judged First p = overdriven-judged p
+lost-judged Second p = violated-judged p
+
+pub slot-judged : (x : Coded) (k v : ℕ) → Judged (judgeSlot x k v)
+unfolding judgeSlot difference
+slot-judged x k v = go (eqb v (due x k)) (ltb (k + 1) (size (x .n))) (eqb (levelAt x k) 1)
+  where
+    go : (a b d : Bool) → Judged (pick a (pick b Goes Done) (pick d (recessiveLost (halfOf (x .n) k) (partOf (x .n) k)) (violated (partOf (x .n) k))))
+    go true true d = went
+    go true false d = done
+    go false b true = lost-judged (halfOf (x .n) k) (partOf (x .n) k)
+    go false b false = violated-judged (partOf (x .n) k)
+
+-- ---- counts
+
+more-slots : (x : ℕ) → moreSlots (record { 0 = min x largest }) ≡ record { 0 = min (x + 1) largest }
+unfolding moreSlots
+more-slots x = go (ltb (min x largest) largest) refl
+  where
+    go : (b : Bool) → ltb (min x largest) largest ≡ b → pick {A = Timeslots} b (record { 0 = min x largest + 1 }) (record { 0 = min x largest }) ≡ record { 0 = min (x + 1) largest }
+    go true e = let q : min x largest + 1 ≡ min (x + 1) largest = omega (arith, ltb-true) in λ i. record { 0 = q i }
+    go false e = let q : min x largest ≡ min (x + 1) largest = omega (arith, ltb-false) in λ i. record { 0 = q i }
+
+more-attempts : (x : ℕ) → moreAttempts (record { 0 = min x largest }) ≡ record { 0 = min (x + 1) largest }
+unfolding moreAttempts
+more-attempts x = go (ltb (min x largest) largest) refl
+  where
+    go : (b : Bool) → ltb (min x largest) largest ≡ b → pick {A = Attempts} b (record { 0 = min x largest + 1 }) (record { 0 = min x largest }) ≡ record { 0 = min (x + 1) largest }
+    go true e = let q : min x largest + 1 ≡ min (x + 1) largest = omega (arith, ltb-true) in λ i. record { 0 = q i }
+    go false e = let q : min x largest ≡ min (x + 1) largest = omega (arith, ltb-false) in λ i. record { 0 = q i }
+
+module _ (t : Tally) (s : Stand) where
+  spent-slot : slotSpent (countersOf t) ≡ countersOf (tallied t s 0 0 1)
+  unfolding slotSpent countersOf tallied
+  spent-slot = rw (more-slots (t .slots), add-zero (t .lost), add-zero (t .errors))
+
+  spent-lost : lostSpent (countersOf t) ≡ countersOf (tallied t s 1 0 1)
+  unfolding lostSpent countersOf tallied
+  spent-lost = rw (more-slots (t .slots), more-attempts (t .lost), add-zero (t .errors))
+
+  spent-error : errorSpent (countersOf t) ≡ countersOf (tallied t s 0 1 1)
+  unfolding errorSpent countersOf tallied
+  spent-error = rw (more-slots (t .slots), more-attempts (t .errors), add-zero (t .lost))
+
+-- ---- the attempt goes on, is lost or fails
+
+module _ (t : Tally) (stage : Stage) (k start : ℕ) (levels : List ℕ) where
+  pub gone-on : k + 1 ≡ start + length levels → serviceJudged Goes (made t stage k) ≡ serviceOf (judgedAs goes t start levels)
+  unfolding serviceJudged withEffort advance withProgress made serviceOf serviceIn judgedAs tallied atStage
+  gone-on e =
+      let c = spent-slot t (inside start levels) in
+      λ i. record { channel = t .channel; abort = t .abort; rear = t .rear; effort = record { frame = coded (t .frame); setting = t .setting; progress = atStage Sending (e i); counters = c i } }
+
+  pub was-lost : serviceJudged Lost (made t stage k) ≡ serviceOf (judgedAs contended t start levels)
+  unfolding serviceJudged withEffort advance withProgress made serviceOf serviceIn judgedAs tallied
+  was-lost =
+      let c = spent-lost t between in
+      λ i. record { channel = t .channel; abort = t .abort; rear = t .rear; effort = record { frame = coded (t .frame); setting = t .setting; progress = atStage Waiting 0; counters = c i } }
+
+  pub has-failed : (code : ℕ) → serviceJudged (Failed code) (made t stage k) ≡ serviceOf (judgedAs failed t start levels)
+  unfolding serviceJudged withEffort advance withProgress made serviceOf serviceIn judgedAs tallied
+  has-failed code =
+      let c = spent-error t between in
+      λ i. record { channel = t .channel; abort = t .abort; rear = t .rear; effort = record { frame = coded (t .frame); setting = t .setting; progress = atStage Waiting 0; counters = c i } }
+
+-- ---- the end of a service
+
+small : (x : ℕ) → x ≤ 16 → min x largest ≡ x
+small x h = omega arith
+
+-- between attempts: exhaustion, abort, REAR
+pub stopped-made : (t : Tally) (stage : Stage) (at : ℕ) → isBetween stage ≡ true → t .errors ≤ 16
+    → stopped (made t stage at) ≡ pick (ltb (t .setting) (t .errors)) Exhausted (pick (t .abort) Aborted (pick (t .rear) Rearbitrated Going))
+unfolding stopped made betweenAttempts atStage exhausted countersOf
+stopped-made t stage at b h = rw (b, small (t .errors) h)
+
+give-up : (t : Tally) (stage : Stage) (at : ℕ) → isBetween stage ≡ true → t .errors ≤ 16 → serviceOf t ≡ made t stage at
+    → settled (stopped (made t stage at)) (made t stage at) ≡ serviceOf (pick (givenUp t) none t)
+unfolding givenUp
+give-up t stage at b h e =
+    ap (λ (x : Ending). settled x (made t stage at)) (stopped-made t stage at b h) ∙ go (ltb (t .setting) (t .errors)) (t .abort) (t .rear)
+  where
+    go : (x y z : Bool) → settled (pick x Exhausted (pick y Aborted (pick z Rearbitrated Going))) (made t stage at) ≡ serviceOf (pick (pick x true (pick y true z)) none t)
+    go true y z = unfold settled serviceOf serviceIn none in refl
+    go false true z = unfold settled serviceOf serviceIn none in refl
+    go false false true = unfold settled serviceOf serviceIn none in refl
+    go false false false = unfold settled in (sym e)
+
+pub settled-in : (s : Stand) (t : Tally) → t .stand ≡ s → t .errors ≤ 16 → settled (stopped (serviceIn s t)) (serviceIn s t) ≡ serviceOf (endedIn s t)
+unfolding endedIn
+settled-in away t e h = unfold settled stopped serviceIn resting atStage betweenAttempts isBetween serviceOf none in refl
+settled-in between t e h = unfold serviceIn in give-up t Waiting 0 (unfold isBetween in refl) h (unfold serviceOf serviceIn in rw e)
+settled-in (opening start) t e h = unfold serviceIn in give-up t Opening start (unfold isBetween in refl) h (unfold serviceOf serviceIn in rw e)
+settled-in (inside start levels) t e h = unfold settled stopped serviceIn made atStage betweenAttempts isBetween serviceOf in rw e
+
+pub settled-is : (t : Tally) → t .errors ≤ 16 → settled (stopped (serviceOf t)) (serviceOf t) ≡ serviceOf (endedT t)
+unfolding serviceOf endedT
+settled-is t h = settled-in (t .stand) t refl h
+
+-- the sample judged, and the service settled
+settle-judged : {w : Verdict} → Judged w → (t : Tally) (stage : Stage) (k start : ℕ) (levels : List ℕ) → k + 1 ≡ start + length levels → t .errors ≤ 15
+    → settled (endingOf w (serviceJudged w (made t stage k))) (serviceJudged w (made t stage k)) ≡ serviceOf (endedT (judgedAs (kind w) t start levels))
+unfolding endingOf kind
+settle-judged went t stage k start levels e h = rw (gone-on t stage k start levels e) (settled-is (judgedAs goes t start levels) (unfold judgedAs tallied in omega arith))
+settle-judged lost t stage k start levels e h = rw (was-lost t stage k start levels) (settled-is (judgedAs contended t start levels) (unfold judgedAs tallied in omega arith))
+settle-judged (broke {code = code}) t stage k start levels e h = rw (has-failed t stage k start levels code) (settled-is (judgedAs failed t start levels) (unfold judgedAs tallied in omega arith))
+settle-judged done t stage k start levels e h = unfold settled serviceOf serviceIn endedT endedIn judgedAs tallied none in refl
+
+-- ---- a slot's sample
+
+-- the level that the tally expects to be driven
+unfoldable pub drivenIn : Stand → Tally → ℕ
+drivenIn away t = 1
+drivenIn between t = 1
+drivenIn (opening start) t = levelAt (coded (t .frame)) start
+drivenIn (inside start levels) t = levelAt (coded (t .frame)) (start + length levels)
+
+pub last-level : (start : ℕ) (levels : List ℕ) (d : ℕ) → start + length levels + 1 ≡ start + length (levels ++ (d ∷ []))
+last-level start levels d = let l = length-append levels (d ∷ []) in omega arith
+
+abbrev settledAfter : Service → ℕ → Service
+settledAfter s v = settled (endingOf (judge (s .effort) v) (serviceJudged (judge (s .effort) v) s)) (serviceJudged (judge (s .effort) v) s)
+
+unfoldable pub isBetweenStand : Stand → Bool
+isBetweenStand away = false
+isBetweenStand between = true
+isBetweenStand (opening start) = false
+isBetweenStand (inside start levels) = false
+
+settled-away : (t : Tally) (v : ℕ) → t .stand ≡ away → settledAfter (serviceIn away t) v ≡ serviceOf (endedT t)
+unfolding settled endingOf judge serviceJudged withEffort advance serviceIn resting atStage drivesFrame isDriving stopped betweenAttempts isBetween endedT serviceOf endedIn none
+settled-away t v e = rw e
+
+settled-between : (t : Tally) (v : ℕ) → t .stand ≡ between → t .errors ≤ 15 → settledAfter (serviceIn between t) v ≡ serviceOf (endedT t)
+unfolding endingOf judge serviceJudged withEffort advance serviceIn made atStage drivesFrame isDriving endedT
+settled-between t v e h = settled-in between t e (omega arith) ∙ ap (λ (s : Stand). serviceOf (endedIn s t)) (sym e)
+
+pub judge-driving : (t : Tally) (stage : Stage) (k v : ℕ) → isDriving stage ≡ true → judge (made t stage k .effort) v ≡ judgeSlot (coded (t .frame)) k v
+unfolding judge made drivesFrame atStage
+judge-driving t stage k v e = rw e
+
+-- in an attempt, with slot k driven
+in-attempt : (t : Tally) (stage : Stage) (k start : ℕ) (levels : List ℕ) (v : ℕ) → isDriving stage ≡ true → k + 1 ≡ start + length levels → t .errors ≤ 15
+    → settledAfter (made t stage k) v ≡ serviceOf (endedT (judgedAs (verdict (t .frame) k (levelAt (coded (t .frame)) k) v) t start levels))
+in-attempt t stage k start levels v b e h =
+    ap (λ (w : Verdict). settled (endingOf w (serviceJudged w (made t stage k))) (serviceJudged w (made t stage k))) (judge-driving t stage k v b)
+    ∙ settle-judged (slot-judged (coded (t .frame)) k v) t stage k start levels e h
+    ∙ ap (λ (x : tally.Verdict). serviceOf (endedT (judgedAs x t start levels))) (kind-same (t .frame) k v)
+
+slot-settled-in : (s : Stand) (t : Tally) (d v : ℕ) → t .stand ≡ s → (isAway s ≡ false → isBetweenStand s ≡ false → d ≡ drivenIn s t) → t .errors ≤ 15
+    → settledAfter (serviceIn s t) v ≡ serviceOf (endedT (countedIn s t d v))
+unfolding countedIn drivenIn isAway isBetweenStand
+slot-settled-in away t d v e q h = settled-away t v e
+slot-settled-in between t d v e q h = settled-between t v e h
+slot-settled-in (opening start) t d v e q h =
+    rw (q refl refl) (unfold serviceIn in in-attempt t Opening start start (levelAt (coded (t .frame)) start ∷ []) v (unfold isDriving in refl) (omega arith) h)
+slot-settled-in (inside start levels) t d v e q h =
+    rw (q refl refl)
+    (unfold serviceIn in in-attempt t Sending (start + length levels) start (levels ++ (levelAt (coded (t .frame)) (start + length levels) ∷ [])) v (unfold isDriving in refl) (last-level start levels (levelAt (coded (t .frame)) (start + length levels))) h)
+
+-- the service after a sample is that of the tally after it
+pub slot-settled : (t : Tally) (d v : ℕ) → (isAway (t .stand) ≡ false → isBetweenStand (t .stand) ≡ false → d ≡ drivenIn (t .stand) t) → t .errors ≤ 15
+    → settledAfter (serviceOf t) v ≡ serviceOf (endedT (countedT t d v))
+unfolding serviceOf countedT
+slot-settled t d v q h = slot-settled-in (t .stand) t d v refl q h
+
+-- ---- choice and start
+
+chosen-is : (m : List ℕ) (c : ℕ) → chosen m c ≡ serviceOf (chosenT m c)
+unfolding chosen chosenT serviceOf serviceIn made countersOf noCounts atStage
+chosen-is m c = refl
+
+pub choose-is : (m : List ℕ) (x : Choice) → choiceOf m x ≡ serviceOf (choiceT m x)
+unfolding choiceOf choiceT
+choose-is m Nothing = unfold serviceOf serviceIn none in refl
+choose-is m (Lowest c) = chosen-is m c
+
+opened-is : (t : Tally) (k : ℕ) → opened (made t Waiting 0) k ≡ serviceOf (standing t (opening k))
+unfolding opened withEffort withProgress made serviceOf serviceIn standing tallied countersOf
+opened-is t k = rw (add-zero (t .slots), add-zero (t .lost), add-zero (t .errors))
+
+start-go : (t : Tally) → serviceOf t ≡ made t Waiting 0 → (a b c : Bool)
+    → pick a (opened (made t Waiting 0) 10) (pick b (made t Waiting 0) (pick c (opened (made t Waiting 0) 0) (made t Waiting 0)))
+    ≡ serviceOf (pick a (standing t (opening 10)) (pick b t (pick c (standing t (opening 0)) t)))
+start-go t e true b c = opened-is t 10
+start-go t e false true c = sym e
+start-go t e false false true = opened-is t 0
+start-go t e false false false = sym e
+
+between-is : (t : Tally) → t .stand ≡ between → serviceOf t ≡ made t Waiting 0
+unfolding serviceOf serviceIn
+between-is t e = ap (λ (s : Stand). serviceIn s t) e
+
+module _ (m : List ℕ) (l : Line) (r : Reception) where
+  started-in : (s : Stand) (t : Tally) → t .stand ≡ s → started (serviceIn s t) (autonomous (getD m transmitControl 0)) l r ≡ serviceOf (startIn s t m l r)
+  unfolding started startIn
+  started-in away t e = unfold serviceOf serviceIn resting atStage waits isWaiting in rw e
+  started-in between t e =
+      unfold serviceIn made atStage waits isWaiting in
+      start-go t (between-is t e) (startEnded r) (underWay (r .place)) (both (autonomous (getD m transmitControl 0)) (free l))
+  started-in (opening start) t e = unfold serviceOf serviceIn made atStage waits isWaiting in rw e
+  started-in (inside start levels) t e = unfold serviceOf serviceIn made atStage waits isWaiting in rw e
+
+  pub started-is : (t : Tally) → started (serviceOf t) (autonomous (getD m transmitControl 0)) l r ≡ serviceOf (startT t m l r)
+  unfolding serviceOf startT
+  started-is t = started-in (t .stand) t refl
+
+-- ---- what a host write asks
+
+module _ (t : Tally) (stage : Stage) (at : ℕ) (serving : isServing stage ≡ true) (same : (a r : Bool) → serviceOf (asking t a r) ≡ made (asking t a r) stage at) where
+  rear-made : rearAsked (made t stage at) ≡ serviceOf (asking t (t .abort) true)
+  unfolding rearAsked made inService atStage asking countersOf
+  rear-made = rw serving (sym (same (t .abort) true))
+
+  abort-made : abortAsked (made t stage at) ≡ serviceOf (asking t true (t .rear))
+  unfolding abortAsked made asking countersOf
+  abort-made = sym (same true (t .rear))
+
+  same-made : made t stage at ≡ serviceOf t
+  unfolding asking
+  same-made = sym (same (t .abort) (t .rear))
+
+  asked-made : (address v : ℕ) → serviceAsked (made t stage at) address v ≡ serviceOf (asks t address v)
+  unfolding serviceAsked asks rearCommanded aborts made
+  asked-made address v =
+      go (eqb address command) (asksRearbitration v) (inService (made t stage at .effort .progress)) (unfold made inService atStage in serving) (eqb address (base (t .channel) + 3)) (cher v)
+    where
+      go : (x y s : Bool) → s ≡ true → (z u : Bool)
+          → pick x (pick y (rearAsked (made t stage at)) (made t stage at)) (pick (pick s (pick z u false) false) (abortAsked (made t stage at)) (made t stage at))
+          ≡ serviceOf (pick x (pick y (asking t (t .abort) true) t) (pick (both z u) (asking t true (t .rear)) t))
+      go true true s e z u = rear-made
+      go true false s e z u = same-made
+      go false y true e true true = abort-made
+      go false y true e true false = same-made
+      go false y true e false u = same-made
+      go false y false e z u = absurd (false≢true e)
+
+asked-away : (address v : ℕ) → serviceAsked resting address v ≡ resting
+unfolding serviceAsked rearCommanded aborts rearAsked resting atStage inService isServing
+asked-away address v = go (eqb address command) (asksRearbitration v)
+  where
+    go : (x y : Bool) → pick x (pick y (rearAsked resting) resting) (pick (pick (inService (resting .effort .progress)) (pick (eqb address (base (resting .channel) + 3)) (cher v) false) false) (abortAsked resting) resting) ≡ resting
+    go true true = refl
+    go true false = refl
+    go false y = refl
+
+asked-in : (s : Stand) (t : Tally) → t .stand ≡ s → (address v : ℕ) → serviceAsked (serviceIn s t) address v ≡ serviceOf (askedIn s t address v)
+unfolding askedIn serviceOf
+asked-in away t e address v = unfold serviceIn in (asked-away address v ∙ ap (λ (s : Stand). serviceIn s t) (sym e))
+asked-in between t e address v = unfold serviceIn in asked-made t Waiting 0 (unfold isServing in refl) (λ a r. unfold serviceOf serviceIn asking in rw e) address v
+asked-in (opening start) t e address v = unfold serviceIn in asked-made t Opening start (unfold isServing in refl) (λ a r. unfold serviceOf serviceIn asking in rw e) address v
+asked-in (inside start levels) t e address v = unfold serviceIn in asked-made t Sending (start + length levels) (unfold isServing in refl) (λ a r. unfold serviceOf serviceIn asking in rw e) address v
+
+pub asked-is : (t : Tally) (address v : ℕ) → serviceAsked (serviceOf t) address v ≡ serviceOf (askedT t address v)
+unfolding serviceOf askedT
+asked-is t address v = asked-in (t .stand) t refl address v

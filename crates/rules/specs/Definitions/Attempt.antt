@@ -1,0 +1,168 @@
+-- An attempt to send: its judgement, slot by slot, and what it spends (01, Sending).
+--   sentSlots, levelAt == the fixed frame's slots, and the level of slot k        judgeSlot, judge == what a sample is for the attempt
+--   advance == the effort after it        exhausted == error R + 1
+use Prim.Native.Nat.{ℕ, _+_, _*_, _%_}
+use mathlib.Core.Bool.{Bool, true, false}
+use mathlib.Core.List.{List, _++_}
+use lib.Dec.{eqb, ltb}
+use lib.ListN.{getD, take}
+use Rattle.line.specs.Bits.{pick}
+use Rattle.line.specs.LineCode.{lineCode}
+use Rattle.line.specs.Frame.{start, endOfData, endOfFrame, acknowledgeSlots, byteBits, size}
+use Rattle.line.specs.Layout.{partOf, halfOf}
+use Rattle.line.specs.declared.Part.{Part}
+use Rattle.line.specs.declared.Part.the-variants.{Start, Identifier, Command, Data, Check, EndOfData, Acknowledge, EndOfFrame, After}
+use Rattle.line.specs.declared.Half.{Half}
+use Rattle.line.specs.declared.Half.the-variants.{Plain, First, Second}
+use Rattle.rules.specs.Definitions.Registers.{CV, ACKE, FCSE}
+use Rattle.rules.specs.Definitions.Channels.{acknowledgeAsked}
+use Rattle.rules.specs.declared.Timeslots.{Timeslots}
+use Rattle.rules.specs.declared.Attempts.{Attempts}
+use Rattle.rules.specs.declared.Coded.{Coded}
+use Rattle.rules.specs.declared.Stage.{Stage}
+use Rattle.rules.specs.declared.Stage.the-variants.{Resting, Waiting, Opening, Sending}
+use Rattle.rules.specs.declared.Progress.{Progress}
+use Rattle.rules.specs.declared.Counters.{Counters}
+use Rattle.rules.specs.declared.Effort.{Effort}
+use Rattle.rules.specs.declared.Verdict.{Verdict}
+use Rattle.rules.specs.declared.Verdict.the-variants.{Unjudged, Goes, Lost, Failed, Done}
+
+-- ---- counts: "only stored counts stop at their largest"
+
+abbrev pub largest : ℕ
+largest = 4294967295
+
+unfoldable pub moreSlots : Timeslots → Timeslots
+moreSlots t = pick (ltb (t .0) largest) (record { 0 = t .0 + 1 }) t
+
+unfoldable pub moreAttempts : Attempts → Attempts
+moreAttempts t = pick (ltb (t .0) largest) (record { 0 = t .0 + 1 }) t
+
+unfoldable pub noCounts : Counters
+noCounts = record { slots = record { 0 = 0 }; lost = record { 0 = 0 }; errors = record { 0 = 0 } }
+
+-- ---- the stage
+
+unfoldable pub atStage : Stage → ℕ → Progress
+atStage stage at = record { stage = stage; at = at }
+
+-- "TXG is 1 in a service"
+unfoldable pub isServing : Stage → Bool
+isServing Resting = false
+isServing Waiting = true
+isServing Opening = true
+isServing Sending = true
+
+unfoldable pub inService : Progress → Bool
+inService p = isServing (p .stage)
+
+-- between attempts: a first level answered and not yet sampled is no attempt
+unfoldable pub isBetween : Stage → Bool
+isBetween Resting = false
+isBetween Waiting = true
+isBetween Opening = true
+isBetween Sending = false
+
+unfoldable pub betweenAttempts : Progress → Bool
+betweenAttempts p = isBetween (p .stage)
+
+unfoldable pub isWaiting : Stage → Bool
+isWaiting Resting = false
+isWaiting Waiting = true
+isWaiting Opening = false
+isWaiting Sending = false
+
+unfoldable pub waits : Progress → Bool
+waits p = isWaiting (p .stage)
+
+unfoldable pub isDriving : Stage → Bool
+isDriving Resting = false
+isDriving Waiting = false
+isDriving Opening = true
+isDriving Sending = true
+
+unfoldable pub drivesFrame : Progress → Bool
+drivesFrame p = isDriving (p .stage)
+
+-- ---- the fixed frame: "both acknowledge slots recessive". A count above 30, which no state in range has, is taken mod 31
+
+unfoldable pub sentSlots : Coded → List ℕ
+sentSlots x =
+    start ++ (lineCode (take (31 + 8 * (x .n % 31)) (byteBits (x .bytes))) ++ (endOfData ++ (acknowledgeSlots false ++ endOfFrame)))
+
+unfoldable pub levelAt : Coded → ℕ → ℕ
+levelAt x k = getD (sentSlots x) k 1
+
+-- "the acknowledge, whose due pattern is RAK's": 10 where RAK asks for it
+unfoldable pub due : Coded → ℕ → ℕ
+due x k = pick (eqb k (51 + 10 * x .n)) (pick (acknowledgeAsked (getD (x .bytes) 1 0)) 0 (levelAt x k)) (levelAt x k)
+
+-- ---- the sender's judgement
+
+-- "Recessive driven and dominant sampled in a plain bit or first half of a pair of identifier, command or data is lost contention .. In the check it is an error, FCSE."
+unfoldable pub overdriven : Part → Verdict
+overdriven Start = Failed CV
+overdriven Identifier = Lost
+overdriven Command = Lost
+overdriven Data = Lost
+overdriven Check = Failed FCSE
+overdriven EndOfData = Failed CV
+overdriven Acknowledge = Failed ACKE
+overdriven EndOfFrame = Failed CV
+overdriven After = Failed CV
+
+-- "Every other difference is an error: CV, or ACKE in the acknowledge"
+unfoldable pub violated : Part → Verdict
+violated Start = Failed CV
+violated Identifier = Failed CV
+violated Command = Failed CV
+violated Data = Failed CV
+violated Check = Failed CV
+violated EndOfData = Failed CV
+violated Acknowledge = Failed ACKE
+violated EndOfFrame = Failed CV
+violated After = Failed CV
+
+unfoldable pub recessiveLost : Half → Part → Verdict
+recessiveLost Plain p = overdriven p
+recessiveLost First p = overdriven p
+recessiveLost Second p = violated p
+
+-- a sample unlike the level due, d the level driven
+unfoldable pub difference : ℕ → ℕ → ℕ → Verdict
+difference n k d = pick (eqb d 1) (recessiveLost (halfOf n k) (partOf n k)) (violated (partOf n k))
+
+-- "ends in the slot where it is lost, fails or has sent its last"
+unfoldable pub judgeSlot : Coded → ℕ → ℕ → Verdict
+judgeSlot x k v =
+    pick (eqb v (due x k)) (pick (ltb (k + 1) (size (x .n))) Goes Done) (difference (x .n) k (levelAt x k))
+
+unfoldable pub judge : Effort → ℕ → Verdict
+judge e v = pick (drivesFrame (e .progress)) (judgeSlot (e .frame) (e .progress .at) v) Unjudged
+
+-- ---- what the attempt spends
+
+unfoldable pub withProgress : Effort → Progress → Counters → Effort
+withProgress e p c = record { frame = e .frame; setting = e .setting; progress = p; counters = c }
+
+-- "Each accepted slot of an attempt adds 1 to slots"
+unfoldable pub slotSpent : Counters → Counters
+slotSpent c = record { slots = moreSlots (c .slots); lost = c .lost; errors = c .errors }
+
+-- "An attempt lost there adds 1 to C, one that fails there 1 to errors."
+unfoldable pub lostSpent : Counters → Counters
+lostSpent c = record { slots = moreSlots (c .slots); lost = moreAttempts (c .lost); errors = c .errors }
+
+unfoldable pub errorSpent : Counters → Counters
+errorSpent c = record { slots = moreSlots (c .slots); lost = c .lost; errors = moreAttempts (c .errors) }
+
+unfoldable pub advance : Verdict → Effort → Effort
+advance Unjudged e = e
+advance Goes e = withProgress e (atStage Sending (e .progress .at + 1)) (slotSpent (e .counters))
+advance Lost e = withProgress e (atStage Waiting 0) (lostSpent (e .counters))
+advance (Failed code) e = withProgress e (atStage Waiting 0) (errorSpent (e .counters))
+advance Done e = withProgress e (atStage Waiting 0) (slotSpent (e .counters))
+
+-- "After error R + 1"
+unfoldable pub exhausted : Effort → Bool
+exhausted e = ltb (e .setting) (e .counters .errors .0)

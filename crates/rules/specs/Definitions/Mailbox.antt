@@ -1,0 +1,78 @@
+-- The mailbox and what the controller writes to the memory map (01, Receiving, Sending; 000, Mailbox).
+--   mailboxAt == an address in the mailbox        stored == a frame in the mailbox
+--   sentFrame, coded == the frame that a channel sends, and its bytes        retagged, marked.. == what is written to a channel
+use Prim.Native.Nat.{ℕ, zero, suc, _+_, _-_, _*_, _/_, _%_}
+use mathlib.Core.Bool.{false}
+use mathlib.Core.List.{List, [], _∷_, _++_}
+use lib.Dec.{eqb}
+use lib.ListN.{length, getD, set, take, drop, replicate}
+use Rattle.line.specs.Bits.{pick}
+use Rattle.line.specs.Check.{check}
+use Rattle.line.specs.Frame.{Frame, covered}
+use Rattle.rules.specs.Definitions.Registers.{lineControl, transmitControl, diagnosisControl, interruptEnable}
+use Rattle.rules.specs.Definitions.Channels.{base, bufferOf, twelve, withCher, withChtx, withChrx}
+use Rattle.rules.specs.declared.Coded.{Coded}
+
+-- "mailbox at 0x80 to 0xFF"; "0xFF is followed by 0x80"
+unfoldable pub mailboxAt : ℕ → ℕ → ℕ
+mailboxAt pointer k = 0x80 + (pointer + k) % 128
+
+-- "the status byte (RAK, R/W, RTR, count n in five bits)"
+unfoldable pub statusByte : ℕ → ℕ → ℕ
+statusByte low n = low % 8 * 32 + n % 32
+
+-- bytes laid into the mailbox from place k behind a pointer on
+unfoldable pub laidFrom : List ℕ → ℕ → ℕ → List ℕ → List ℕ
+laidFrom m pointer k [] = m
+laidFrom m pointer k (b ∷ bs) = laidFrom (set m (mailboxAt pointer k) b) pointer (k + 1) bs
+
+-- "writes the status byte .. at 0x80 + pointer and the n data bytes after it, and no other mailbox byte"
+unfoldable pub stored : List ℕ → ℕ → List ℕ → ℕ → List ℕ
+stored m pointer bytes n = laidFrom m pointer 0 (statusByte (getD bytes 1 0) n ∷ take n (drop 2 bytes))
+
+-- n bytes of the mailbox from place k behind a pointer on
+unfoldable pub mailboxBytes : List ℕ → ℕ → ℕ → ℕ → List ℕ
+mailboxBytes m pointer k zero = []
+mailboxBytes m pointer k (suc n) = getD m (mailboxAt pointer k) 0 ∷ mailboxBytes m pointer (k + 1) n
+
+-- a length M_L holds the status byte and M_L - 1 data bytes
+unfoldable pub dataIn : ℕ → ℕ
+dataIn length = pick (eqb length 0) 0 ((length - 1) % 31)
+
+-- "its frame has the channel's tag and command and M_L - 1 data bytes from pointer + 1"; "The fixed frame has both acknowledge slots recessive"
+unfoldable pub sentFrame : List ℕ → ℕ → Frame
+sentFrame m c =
+    record {
+      identifier = twelve (getD m (base c) 0) (getD m (base c + 1) 0);
+      command = getD m (base c + 1) 0 % 16;
+      bytes = mailboxBytes m (bufferOf m c .pointer) 1 (dataIn (bufferOf m c .length));
+      acknowledge = false;
+    }
+
+-- identifier, command, data and check of a frame as bytes, a zero bit behind the check, and zeros up to 34 bytes
+unfoldable pub codedBytes : Frame → List ℕ
+codedBytes f =
+    (f .identifier / 16) ∷ (f .identifier % 16 * 16 + f .command)
+    ∷ (f .bytes ++ ((check (covered f) / 128) ∷ (check (covered f) % 128 * 2) ∷ replicate (30 - length (f .bytes)) 0))
+
+unfoldable pub coded : Frame → Coded
+coded f = record { n = length (f .bytes); bytes = codedBytes f }
+
+-- ---- what the controller writes to a channel
+
+-- the tag rewritten with the identifier received; the command bits stay (000, Identifier Tag)
+unfoldable pub retagged : List ℕ → ℕ → ℕ → ℕ → List ℕ
+retagged m c high low = set (set m (base c) high) (base c + 1) (low / 16 * 16 + getD m (base c + 1) 0 % 16)
+
+unfoldable pub markedCher : List ℕ → ℕ → List ℕ
+markedCher m c = set m (base c + 3) (withCher (getD m (base c + 3) 0))
+
+unfoldable pub markedChtx : List ℕ → ℕ → List ℕ
+markedChtx m c = set m (base c + 3) (withChtx (getD m (base c + 3) 0))
+
+unfoldable pub markedChrx : List ℕ → ℕ → List ℕ
+markedChrx m c = set m (base c + 3) (withChrx (getD m (base c + 3) 0))
+
+-- "Reset values: 0x01 is 0x02, 0x02 is 0x00 .. Others as document 000"; "Reset, by pin or GRES, leaves both" channels and mailbox
+unfoldable pub resetMemory : List ℕ → List ℕ
+resetMemory m = set (set (set (set m lineControl 0x00) transmitControl 0x02) diagnosisControl 0x00) interruptEnable 0x80

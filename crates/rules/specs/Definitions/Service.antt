@@ -1,0 +1,174 @@
+-- The sending service: choice, start, abort, REAR, end (01, Sending; 000, Retries, Rearbitrate and Abort).
+--   roleOf == what the model is in the frame under way        stopped, endingOf, settled == the end of a service
+--   memoryEnded, reportJudged, reportEnded == memory map and registers        chosen, choose, started == choice and start
+use Prim.Native.Nat.{ℕ, _+_, _%_}
+use mathlib.Core.Bool.{Bool, true, false}
+use mathlib.Core.List.{List}
+use lib.Dec.{eqb, ltb}
+use lib.ListN.{getD, replicate}
+use Rattle.line.specs.Bits.{pick}
+use Rattle.rules.specs.Definitions.Registers.{both, transmitControl, retrySetting}
+use Rattle.rules.specs.Definitions.Channels.{base, cher, lowestReady}
+use Rattle.rules.specs.Definitions.Mailbox.{sentFrame, coded, markedCher, markedChtx}
+use Rattle.rules.specs.Definitions.Reception.{free, underWay, startEnded}
+use Rattle.rules.specs.Definitions.Delivery.{withFlags, withMessage, withSending}
+use Rattle.rules.specs.Definitions.Attempt.{noCounts, atStage, inService, betweenAttempts, waits, drivesFrame, withProgress, exhausted}
+use Rattle.rules.specs.declared.Flags.{Flags}
+use Rattle.rules.specs.declared.Retries.{Retries}
+use Rattle.rules.specs.declared.Report.{Report}
+use Rattle.rules.specs.declared.Choice.{Choice}
+use Rattle.rules.specs.declared.Choice.the-variants.{Nothing, Lowest}
+use Rattle.rules.specs.declared.Line.{Line}
+use Rattle.rules.specs.declared.Place.{Place}
+use Rattle.rules.specs.declared.Reception.{Reception}
+use Rattle.rules.specs.declared.Hearing.{Hearing}
+use Rattle.rules.specs.declared.Hearing.the-variants.{Silent, Follows, Fault, Good}
+use Rattle.rules.specs.declared.Stage.the-variants.{Resting, Waiting, Opening}
+use Rattle.rules.specs.declared.Progress.{Progress}
+use Rattle.rules.specs.declared.Effort.{Effort}
+use Rattle.rules.specs.declared.Service.{Service}
+use Rattle.rules.specs.declared.Verdict.{Verdict}
+use Rattle.rules.specs.declared.Verdict.the-variants.{Unjudged, Goes, Lost, Failed, Done}
+use Rattle.rules.specs.declared.Ending.{Ending}
+use Rattle.rules.specs.declared.Ending.the-variants.{Going, Sent, Exhausted, Aborted, Rearbitrated}
+use Rattle.rules.specs.declared.Role.{Role}
+use Rattle.rules.specs.declared.Role.the-variants.{Nobody, Receiver, Sender}
+
+-- sender from its first driven slot on, receiver of any other frame under way
+unfoldable pub roleOf : Progress → Place → Role
+roleOf p here = pick (drivesFrame p) Sender (pick (underWay here) Receiver Nobody)
+
+unfoldable pub resting : Service
+resting =
+    record {
+      channel = 0;
+      abort = false;
+      rear = false;
+      effort = record { frame = record { n = 0; bytes = replicate 34 0 }; setting = 0; progress = atStage Resting 0; counters = noCounts };
+    }
+
+unfoldable pub withEffort : Service → Effort → Service
+withEffort s e = record { channel = s .channel; abort = s .abort; rear = s .rear; effort = e }
+
+-- ---- the end of a service
+
+-- "ends the service after the current attempt, or at once between attempts ..; exhaustion is judged first"; with both waiting it is an abort
+unfoldable pub stopped : Service → Ending
+stopped s =
+    pick (betweenAttempts (s .effort .progress))
+    (pick (exhausted (s .effort)) Exhausted (pick (s .abort) Aborted (pick (s .rear) Rearbitrated Going)))
+    Going
+
+unfoldable pub endingOf : Verdict → Service → Ending
+endingOf Unjudged s = stopped s
+endingOf Goes s = stopped s
+endingOf Lost s = stopped s
+endingOf (Failed code) s = stopped s
+endingOf Done s = Sent
+
+unfoldable pub settled : Ending → Service → Service
+settled Going s = s
+settled Sent s = resting
+settled Exhausted s = resting
+settled Aborted s = resting
+settled Rearbitrated s = resting
+
+-- "After error R + 1: TE, CHER, CHTx. Success: TOK, CHTx." An abort sets CHTx (000, Abort), REAR nothing.
+unfoldable pub memoryEnded : Ending → List ℕ → ℕ → List ℕ
+memoryEnded Going m c = m
+memoryEnded Sent m c = markedChtx m c
+memoryEnded Exhausted m c = markedChtx (markedCher m c) c
+memoryEnded Aborted m c = markedChtx m c
+memoryEnded Rearbitrated m c = m
+
+-- "Retry fields show the smaller of errors and R"
+unfoldable pub retriesOf : Service → Retries
+retriesOf s =
+    record {
+      count = pick (ltb (s .effort .counters .errors .0) (s .effort .setting)) (s .effort .counters .errors .0 % 256) (s .effort .setting);
+      channel = s .channel;
+    }
+
+-- 0x05: at the choice and at each error
+unfoldable pub reportSending : Report → Service → Report
+reportSending x s = withSending x (retriesOf s)
+
+unfoldable pub reportJudged : Verdict → Report → Service → Report
+reportJudged Unjudged x s = x
+reportJudged Goes x s = x
+reportJudged Lost x s = x
+reportJudged (Failed code) x s = reportSending x s
+reportJudged Done x s = x
+
+unfoldable pub raiseTe : Flags → Flags
+raiseTe f = record { rst = f .rst; te = true; tok = f .tok; re = f .re; rok = f .rok; rnok = f .rnok }
+
+unfoldable pub raiseTok : Flags → Flags
+raiseTok f = record { rst = f .rst; te = f .te; tok = true; re = f .re; rok = f .rok; rnok = f .rnok }
+
+-- "0x06 is written on success, exhaustion"
+unfoldable pub reportEnded : Ending → Report → Service → Report
+reportEnded Going x s = x
+reportEnded Sent x s = withFlags (withMessage x (retriesOf s)) (raiseTok (x .flags))
+reportEnded Exhausted x s = withFlags (withMessage x (retriesOf s)) (raiseTe (x .flags))
+reportEnded Aborted x s = x
+reportEnded Rearbitrated x s = x
+
+-- ---- choice and start
+
+-- "Frame and MR are copied then (house)"
+unfoldable pub chosen : List ℕ → ℕ → Service
+chosen m c =
+    record {
+      channel = c;
+      abort = false;
+      rear = false;
+      effort =
+          record {
+            frame = coded (sentFrame m c);
+            setting = retrySetting (getD m transmitControl 0);
+            progress = atStage Waiting 0;
+            counters = noCounts;
+          };
+    }
+
+unfoldable pub choiceOf : List ℕ → Choice → Service
+choiceOf m Nothing = resting
+choiceOf m (Lowest c) = chosen m c
+
+-- "the lowest channel .. is chosen"
+unfoldable pub choose : List ℕ → ℕ → Service
+choose m longest = choiceOf m (lowestReady m longest)
+
+unfoldable pub opened : Service → ℕ → Service
+opened s k = withEffort s (withProgress (s .effort) (atStage Opening k) (s .effort .counters))
+
+-- "MT 1 starts at once on a free line; either type joins a clean start sequence."
+unfoldable pub started : Service → Bool → Line → Reception → Service
+started s autonomous l r =
+    pick (waits (s .effort .progress))
+    (pick (startEnded r) (opened s 10) (pick (underWay (r .place)) s (pick (both autonomous (free l)) (opened s 0) s)))
+    s
+
+-- ---- abort and REAR
+
+unfoldable pub abortAsked : Service → Service
+abortAsked s = record { channel = s .channel; abort = true; rear = s .rear; effort = s .effort }
+
+-- REAR without a service is not remembered
+unfoldable pub rearAsked : Service → Service
+rearAsked s = record { channel = s .channel; abort = s .abort; rear = inService (s .effort .progress); effort = s .effort }
+
+-- "Writing CHER 1 to the channel (abort)"
+unfoldable pub aborts : Service → ℕ → ℕ → Bool
+aborts s address value =
+    pick (inService (s .effort .progress)) (pick (eqb address (base (s .channel) + 3)) (cher value) false) false
+
+-- ---- the model's own frame, for the line: it goes on, is another's once lost, ends in an error, or ends well
+
+unfoldable pub hearOwn : Verdict → Hearing
+hearOwn Unjudged = Silent
+hearOwn Goes = Follows
+hearOwn Lost = Follows
+hearOwn (Failed code) = Fault code
+hearOwn Done = Good

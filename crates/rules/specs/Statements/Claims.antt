@@ -1,0 +1,59 @@
+-- What is claimed of the controller's rules: refusals, matching, sending, receiving, closed runs.
+use Prim.Native.Nat.{ℕ, _≤_, _<_}
+use mathlib.Core.Bool.{Bool, true, false}
+use mathlib.Core.List.{List, [], _∷_, _++_}
+use mathlib.Core.Path.{_≡_}
+use lib.ListN.{take}
+use Rattle.line.specs.Frame.{slots}
+use Rattle.rules.specs.Definitions.Channels.{matches, lowest}
+use Rattle.rules.specs.Statements.Bits.{bitAt}
+use Rattle.rules.specs.Definitions.State.{inRange}
+use Rattle.rules.specs.Definitions.Slots.{drives}
+use Rattle.rules.specs.Definitions.Run.{fresh, step, after}
+use Rattle.rules.specs.Statements.Tally.{none}
+use Rattle.rules.specs.Statements.Sending.{Kept}
+use Rattle.rules.specs.Statements.Receiving.{noLog, Delivered}
+use Rattle.rules.specs.Statements.Runs.{Counts, seenOver, setUp, ones, levels, sent, echoed, overdriven, ran, listening, asking, Stored}
+use Rattle.rules.specs.declared.Choice.the-variants.{Lowest}
+use Rattle.rules.specs.declared.Mode.the-variants.{Active}
+use Rattle.rules.specs.declared.Controller.{Controller}
+use Rattle.rules.specs.declared.Event.{Event}
+use Rattle.rules.specs.declared.Event.the-variants.{Slot, Write}
+
+-- a refused event changes nothing and answers zero; no state that a run reaches is refused with 6
+pub record Refusals : Type 0 where
+  pub same : (c : Controller) (e : Event) → (step c e .refused ≡ 0 → ⊥) → step c e .next ≡ c
+  pub zero-elsewhere : (c : Controller) (e : Event) → (step c e .refused ≡ 0 → ⊥) → step c e .value ≡ 0
+  pub in-range : (es : List Event) → inRange (after fresh es .core) ≡ true
+  pub never-six : (es : List Event) (e : Event) → step (after fresh es) e .refused ≡ 6 → ⊥
+
+pub record Matching : Type 0 where
+  -- "A frame matches when every tag bit under a mask one equals the identifier's": then, and only then
+  pub sound : (tag mask identifier : ℕ) → matches tag mask identifier ≡ true → (k : ℕ) → bitAt mask k ≡ 1 → bitAt tag k ≡ bitAt identifier k
+  pub complete : (tag mask identifier : ℕ) → ((k : ℕ) → bitAt mask k ≡ 1 → bitAt tag k ≡ bitAt identifier k) → matches tag mask identifier ≡ true
+  -- "Lowest channel number wins": the one that is found passes, and none below it does
+  pub wins : (passes : ℕ → Bool) (left from c : ℕ) → lowest passes left from ≡ Lowest c → (passes c ≡ true) × ((k : ℕ) → from ≤ k → k < c → passes k ≡ false)
+
+-- demand 3, for every list of events from a fresh controller
+pub record Sending : Type 0 where
+  pub kept : (es : List Event) → Kept fresh none es
+
+-- what is delivered and acknowledged, for every list of events from a fresh controller
+pub record Receiving : Type 0 where
+  pub kept : (es : List Event) → Delivered fresh noLog es
+  -- a closed run: the acknowledge is driven, and the frame is stored
+  pub driven : drives (ran fresh (listening ++ (ones 12 ++ levels (take 71 (slots asking)))) .core) ≡ 0
+  pub stored : Stored (ran fresh (listening ++ (ones 12 ++ levels (slots asking))) .memory)
+
+-- closed runs: what was lost, failed and spent (C, errors, slots) once the last sample is judged
+pub record Runs : Type 0 where
+  pub success : Counts (seenOver fresh none (setUp ++ (ones 12 ++ echoed)) (Slot 1)) 0 0 60
+  pub exhausted : Counts (seenOver fresh none (setUp ++ (ones 12 ++ (Slot 1 ∷ (ones 12 ++ (Slot 1 ∷ ones 12))))) (Slot 1)) 0 3 3
+  pub lost-twice : Counts (seenOver fresh none (setUp ++ (ones 12 ++ (overdriven ++ (ones 12 ++ (overdriven ++ (ones 12 ++ echoed)))))) (Slot 1)) 2 0 82
+  pub join : Counts (seenOver fresh none (setUp ++ (Write 0x01 0x22 ∷ (ones 12 ++ echoed))) (Slot 1)) 0 0 50
+  pub abort : Counts (seenOver fresh none (setUp ++ (ones 12 ++ (Slot 0 ∷ Slot 0 ∷ Slot 0 ∷ Write 0x13 0x0C ∷ []))) (Slot 1)) 0 1 4
+  -- tag and R written after the choice do not touch the service; the slot of a loss counts; a refused slot leaves the mode
+  pub frame-kept : drives (ran fresh (setUp ++ (ones 5 ++ (Write 0x10 0x02 ∷ (ones 7 ++ levels (take 10 (slots sent)))))) .core) ≡ 1
+  pub setting-kept : ran fresh (setUp ++ (ones 5 ++ (Write 0x01 0x03 ∷ (ones 7 ++ (Slot 1 ∷ []))))) .core .report .flags .te ≡ false
+  pub loss-counted : ran fresh (setUp ++ (ones 12 ++ overdriven)) .core .service .effort .counters .slots .0 ≡ 11
+  pub refused : (step (ran fresh setUp) (Slot 9) .next) .core .activity .mode ≡ Active

@@ -1,0 +1,84 @@
+-- Closed runs: what they are made of.
+--   seenOver == the tally once the sample of a run's last event is judged        ran == the controller after a run
+--   setUp, listening == what the host writes first        ones, levels == slots
+use Rattle.line.specs.Bits as lbits
+use Rattle.line.specs.LineCode as llinecode
+use Rattle.line.specs.Check as lcheck
+use Rattle.line.specs.Frame as lframe
+use Rattle.line.specs.Layout as llayout
+use Rattle.rules.specs.Definitions.Registers as rregisters
+use Rattle.rules.specs.Definitions.Channels as rchannels
+use Rattle.rules.specs.Definitions.Mailbox as rmailbox
+use Rattle.rules.specs.Definitions.Reception as rreception
+use Rattle.rules.specs.Definitions.Hearing as rhearing
+use Rattle.rules.specs.Definitions.Delivery as rdelivery
+use Rattle.rules.specs.Definitions.Attempt as rattempt
+use Rattle.rules.specs.Definitions.Service as rservice
+use Rattle.rules.specs.Definitions.State as rstate
+use Rattle.rules.specs.Definitions.Slots as rslots
+use Rattle.rules.specs.Definitions.Host as rhost
+use Rattle.rules.specs.Definitions.Run as rrun
+use Rattle.rules.specs.Statements.Tally as rtally
+use Rattle.rules.specs.Statements.Sending as rpromise
+use Prim.Native.Nat.{ℕ}
+use mathlib.Core.Bool.{true, false}
+use mathlib.Core.List.{List, [], _∷_, _++_}
+use mathlib.Core.Path.{_≡_}
+use lib.ListN.{getD, replicate, take}
+use Rattle.line.specs.Frame.{Frame, slots}
+use Rattle.rules.specs.Definitions.Run.{fresh, next}
+use Rattle.rules.specs.Statements.Tally.{Tally, none}
+use Rattle.rules.specs.Statements.Sending.{seenT, nextT}
+use Rattle.rules.specs.declared.Controller.{Controller}
+use Rattle.rules.specs.declared.Event.{Event}
+use Rattle.rules.specs.declared.Event.the-variants.{Write, Slot}
+
+-- it unfolds every definition of the rules, so that a run computes
+unfoldable pub seenOver : Controller → Tally → List Event → Event → Tally
+unfolding lbits.bits lbits.written lbits.number llinecode.lineCode llinecode.pattern lcheck.polynomial lcheck.checkBit lcheck.remainder lcheck.allOnes lcheck.check lframe.byteBits lframe.covered lframe.carried lframe.start lframe.endOfData lframe.acknowledgeSlots lframe.endOfFrame lframe.slots lframe.size llayout.partOf llayout.inFive llayout.halfOf llayout.bitOf llayout.codedLevel llayout.levelIn llayout.levelOf rregisters.readOnly rregisters.writeOnly rregisters.reserved rregisters.fixedBits rregisters.invertsReceive rregisters.invertsTransmit rregisters.retrySetting rregisters.autonomous rregisters.selectedInput rregisters.asksReset rregisters.asksSleep rregisters.asksIdle rregisters.asksActivation rregisters.asksRearbitration rregisters.resetReport rregisters.bit rregisters.lineStatus rregisters.retriesByte rregisters.interruptStatus rregisters.unless rregisters.cleared rregisters.asserted rregisters.inputLevel rregisters.inverted rregisters.sampled rregisters.transmitted rchannels.extension rchannels.acknowledgeAsked rchannels.reads rchannels.remote rchannels.twelve rchannels.base rchannels.channelAt rchannels.lengthOf rchannels.cher rchannels.chtx rchannels.chrx rchannels.withCher rchannels.withChtx rchannels.withChrx rchannels.drak rchannels.noBuffer rchannels.ownBuffer rchannels.linkedBuffer rchannels.bufferOf rchannels.matches rchannels.listensForData rchannels.listensForRequests rchannels.listens rchannels.takes rchannels.nobody rchannels.winnerOf rchannels.lowest rchannels.lowestListening rchannels.won rchannels.winnerFor rchannels.asksToSend rchannels.sendable rchannels.ready rchannels.lowestReady rmailbox.mailboxAt rmailbox.statusByte rmailbox.laidFrom rmailbox.stored rmailbox.mailboxBytes rmailbox.dataIn rmailbox.sentFrame rmailbox.codedBytes rmailbox.coded rmailbox.retagged rmailbox.markedCher rmailbox.markedChtx rmailbox.markedChrx rmailbox.resetMemory rreception.unsettled rreception.afterGood rreception.free rreception.takesStart rreception.counted rreception.atPlace rreception.quiet rreception.isUnderWay rreception.underWay rreception.isBody rreception.inBody rreception.behind rreception.startEnded rreception.commandEnded rreception.withPlace rreception.moved rreception.entered rreception.bitTaken rreception.withNibble rreception.moreNibbles rreception.nibbleTaken rreception.begun rreception.followStart rreception.followBody rreception.followAcknowledge rreception.followEnd rreception.followIn rreception.followed rreception.named rreception.dataCount rhearing.lineAfter rhearing.receptionAfter rhearing.mostNibbles rhearing.whole rhearing.replyRequest rhearing.checkReceived rhearing.checkDue rhearing.hearEndOfData rhearing.hearSecondHalf rhearing.hearBody rhearing.hearStart rhearing.fits rhearing.acknowledges rhearing.acknowledgeWrong rhearing.hearAcknowledge rhearing.hearEnd rhearing.hearIn rhearing.hearFrame rhearing.hearQuiet rhearing.acknowledgeLevel rhearing.receiverIn rhearing.receiverLevel rdelivery.delivered rdelivery.deliveryTo rdelivery.deliveryOf rdelivery.memoryStored rdelivery.memoryDelivered rdelivery.withError rdelivery.withFlags rdelivery.withMessage rdelivery.withSending rdelivery.raiseRe rdelivery.raiseRok rdelivery.raiseRnok rdelivery.withReceiveError rdelivery.reportStored rdelivery.reportHeard rdelivery.reportDelivered rattempt.moreSlots rattempt.moreAttempts rattempt.noCounts rattempt.atStage rattempt.isServing rattempt.inService rattempt.isBetween rattempt.betweenAttempts rattempt.isWaiting rattempt.waits rattempt.isDriving rattempt.drivesFrame rattempt.sentSlots rattempt.levelAt rattempt.due rattempt.overdriven rattempt.violated rattempt.recessiveLost rattempt.difference rattempt.judgeSlot rattempt.judge rattempt.withProgress rattempt.slotSpent rattempt.lostSpent rattempt.errorSpent rattempt.advance rattempt.exhausted rservice.roleOf rservice.resting rservice.withEffort rservice.stopped rservice.endingOf rservice.settled rservice.memoryEnded rservice.retriesOf rservice.reportSending rservice.reportJudged rservice.raiseTe rservice.raiseTok rservice.reportEnded rservice.chosen rservice.choiceOf rservice.choose rservice.opened rservice.started rservice.abortAsked rservice.rearAsked rservice.aborts rservice.hearOwn rstate.isActive rstate.isAsleep rstate.isIdle rstate.inMode rstate.serving rstate.winnerInRange rstate.receptionInRange rstate.effortInRange rstate.serviceInRange rstate.retriesInRange rstate.reportInRange rstate.lineInRange rstate.inRange rstate.withActivity rstate.withReport rstate.withService rstate.resetCore rstate.idled rstate.idleDue rstate.slept rstate.idleAsked rstate.activated rslots.heardAs rslots.heard rslots.delivers rslots.serviceJudged rslots.ending rslots.receptionJudged rslots.reportAfter rslots.memoryJudged rslots.coreJudged rslots.chooses rslots.choiceMade rslots.startMade rslots.followsOn rslots.drivesAs rslots.drives rslots.sampleOf rslots.judgedSlot rslots.sampledSlot rslots.activeSlot rhost.resetAll rhost.resets rhost.sleeps rhost.modeCommanded rhost.rearCommanded rhost.keptByte rhost.flagsCleared rhost.coreWritten rhost.serviceAsked rhost.stoppedCore rhost.byteWritten rhost.written rhost.lineStatusOf rhost.statusRead rhost.byteRead rhost.accessRefused rhost.writeRefused rhost.readRefused rhost.interruptLine rrun.fresh rrun.refuse rrun.accept rrun.pinReset rrun.hostWrite rrun.hostRead rrun.answered rrun.restedSlot rrun.slot rrun.step rrun.next rrun.after rtally.noFrame rtally.none rtally.asksAcknowledge rtally.dueLevel rtally.openHalf rtally.arbitrated rtally.verdict rtally.tallied rtally.judgedAs rtally.countedIn rtally.countedT rtally.givenUp rtally.endedIn rtally.endedT rtally.chosenT rtally.choiceT rtally.chooseIn rtally.chooseT rtally.standing rtally.startIn rtally.startT rtally.isAway rtally.asking rtally.asks rtally.askedIn rtally.askedT rpromise.accepted rpromise.seenIn rpromise.afterSlot rpromise.followIn rpromise.seenT rpromise.nextT
+seenOver c t [] e = seenT c t e
+seenOver c t (x ∷ xs) e = seenOver (next c x) (nextT c t x) xs e
+
+-- channel 0: tag 0xF23, EXT, no data, RAK 0; R = 2, MT 1; active
+unfoldable pub setUp : List Event
+setUp = Write 0x10 0xF2 ∷ Write 0x11 0x38 ∷ Write 0x13 0x08 ∷ Write 0x01 0x23 ∷ Write 0x03 0x10 ∷ []
+
+unfoldable pub ones : ℕ → List Event
+ones n = replicate n (Slot 1)
+
+-- channel 0's frame: its slots
+unfoldable pub sent : Frame
+sent = record { identifier = 0xF23; command = 8; bytes = []; acknowledge = false }
+
+unfoldable pub levels : List ℕ → List Event
+levels [] = []
+levels (v ∷ vs) = Slot v ∷ levels vs
+
+-- the frame sampled as it is driven, but for its last slot
+unfoldable pub echoed : List Event
+echoed = levels (take 59 (slots sent))
+
+-- recessive driven in the identifier's first slot, dominant sampled; four more dominant slots end the other module's frame in a fault
+unfoldable pub overdriven : List Event
+overdriven = levels (take 10 (slots sent)) ++ (Slot 0 ∷ Slot 0 ∷ Slot 0 ∷ Slot 0 ∷ Slot 0 ∷ [])
+
+abbrev pub Counts : Tally → ℕ → ℕ → ℕ → Type 0
+Counts t lost errors slots = (t .lost ≡ lost) × (t .errors ≡ errors) × (t .slots ≡ slots)
+
+-- it unfolds every definition of the rules, so that a run computes
+unfoldable pub ran : Controller → List Event → Controller
+unfolding lbits.bits lbits.written lbits.number llinecode.lineCode llinecode.pattern lcheck.polynomial lcheck.checkBit lcheck.remainder lcheck.allOnes lcheck.check lframe.byteBits lframe.covered lframe.carried lframe.start lframe.endOfData lframe.acknowledgeSlots lframe.endOfFrame lframe.slots lframe.size llayout.partOf llayout.inFive llayout.halfOf llayout.bitOf llayout.codedLevel llayout.levelIn llayout.levelOf rregisters.readOnly rregisters.writeOnly rregisters.reserved rregisters.fixedBits rregisters.invertsReceive rregisters.invertsTransmit rregisters.retrySetting rregisters.autonomous rregisters.selectedInput rregisters.asksReset rregisters.asksSleep rregisters.asksIdle rregisters.asksActivation rregisters.asksRearbitration rregisters.resetReport rregisters.bit rregisters.lineStatus rregisters.retriesByte rregisters.interruptStatus rregisters.unless rregisters.cleared rregisters.asserted rregisters.inputLevel rregisters.inverted rregisters.sampled rregisters.transmitted rchannels.extension rchannels.acknowledgeAsked rchannels.reads rchannels.remote rchannels.twelve rchannels.base rchannels.channelAt rchannels.lengthOf rchannels.cher rchannels.chtx rchannels.chrx rchannels.withCher rchannels.withChtx rchannels.withChrx rchannels.drak rchannels.noBuffer rchannels.ownBuffer rchannels.linkedBuffer rchannels.bufferOf rchannels.matches rchannels.listensForData rchannels.listensForRequests rchannels.listens rchannels.takes rchannels.nobody rchannels.winnerOf rchannels.lowest rchannels.lowestListening rchannels.won rchannels.winnerFor rchannels.asksToSend rchannels.sendable rchannels.ready rchannels.lowestReady rmailbox.mailboxAt rmailbox.statusByte rmailbox.laidFrom rmailbox.stored rmailbox.mailboxBytes rmailbox.dataIn rmailbox.sentFrame rmailbox.codedBytes rmailbox.coded rmailbox.retagged rmailbox.markedCher rmailbox.markedChtx rmailbox.markedChrx rmailbox.resetMemory rreception.unsettled rreception.afterGood rreception.free rreception.takesStart rreception.counted rreception.atPlace rreception.quiet rreception.isUnderWay rreception.underWay rreception.isBody rreception.inBody rreception.behind rreception.startEnded rreception.commandEnded rreception.withPlace rreception.moved rreception.entered rreception.bitTaken rreception.withNibble rreception.moreNibbles rreception.nibbleTaken rreception.begun rreception.followStart rreception.followBody rreception.followAcknowledge rreception.followEnd rreception.followIn rreception.followed rreception.named rreception.dataCount rhearing.lineAfter rhearing.receptionAfter rhearing.mostNibbles rhearing.whole rhearing.replyRequest rhearing.checkReceived rhearing.checkDue rhearing.hearEndOfData rhearing.hearSecondHalf rhearing.hearBody rhearing.hearStart rhearing.fits rhearing.acknowledges rhearing.acknowledgeWrong rhearing.hearAcknowledge rhearing.hearEnd rhearing.hearIn rhearing.hearFrame rhearing.hearQuiet rhearing.acknowledgeLevel rhearing.receiverIn rhearing.receiverLevel rdelivery.delivered rdelivery.deliveryTo rdelivery.deliveryOf rdelivery.memoryStored rdelivery.memoryDelivered rdelivery.withError rdelivery.withFlags rdelivery.withMessage rdelivery.withSending rdelivery.raiseRe rdelivery.raiseRok rdelivery.raiseRnok rdelivery.withReceiveError rdelivery.reportStored rdelivery.reportHeard rdelivery.reportDelivered rattempt.moreSlots rattempt.moreAttempts rattempt.noCounts rattempt.atStage rattempt.isServing rattempt.inService rattempt.isBetween rattempt.betweenAttempts rattempt.isWaiting rattempt.waits rattempt.isDriving rattempt.drivesFrame rattempt.sentSlots rattempt.levelAt rattempt.due rattempt.overdriven rattempt.violated rattempt.recessiveLost rattempt.difference rattempt.judgeSlot rattempt.judge rattempt.withProgress rattempt.slotSpent rattempt.lostSpent rattempt.errorSpent rattempt.advance rattempt.exhausted rservice.roleOf rservice.resting rservice.withEffort rservice.stopped rservice.endingOf rservice.settled rservice.memoryEnded rservice.retriesOf rservice.reportSending rservice.reportJudged rservice.raiseTe rservice.raiseTok rservice.reportEnded rservice.chosen rservice.choiceOf rservice.choose rservice.opened rservice.started rservice.abortAsked rservice.rearAsked rservice.aborts rservice.hearOwn rstate.isActive rstate.isAsleep rstate.isIdle rstate.inMode rstate.serving rstate.winnerInRange rstate.receptionInRange rstate.effortInRange rstate.serviceInRange rstate.retriesInRange rstate.reportInRange rstate.lineInRange rstate.inRange rstate.withActivity rstate.withReport rstate.withService rstate.resetCore rstate.idled rstate.idleDue rstate.slept rstate.idleAsked rstate.activated rslots.heardAs rslots.heard rslots.delivers rslots.serviceJudged rslots.ending rslots.receptionJudged rslots.reportAfter rslots.memoryJudged rslots.coreJudged rslots.chooses rslots.choiceMade rslots.startMade rslots.followsOn rslots.drivesAs rslots.drives rslots.sampleOf rslots.judgedSlot rslots.sampledSlot rslots.activeSlot rhost.resetAll rhost.resets rhost.sleeps rhost.modeCommanded rhost.rearCommanded rhost.keptByte rhost.flagsCleared rhost.coreWritten rhost.serviceAsked rhost.stoppedCore rhost.byteWritten rhost.written rhost.lineStatusOf rhost.statusRead rhost.byteRead rhost.accessRefused rhost.writeRefused rhost.readRefused rhost.interruptLine rrun.fresh rrun.refuse rrun.accept rrun.pinReset rrun.hostWrite rrun.hostRead rrun.answered rrun.restedSlot rrun.slot rrun.step rrun.next rrun.after
+ran c [] = c
+ran c (x ∷ xs) = ran (next c x) xs
+
+-- channel 1 listens: tag 0xF23, mask all ones, pointer 0x7F, M_L 3; active
+unfoldable pub listening : List Event
+listening = Write 0x18 0xF2 ∷ Write 0x19 0x39 ∷ Write 0x1A 0x7F ∷ Write 0x1B 0x18 ∷ Write 0x1E 0xFF ∷ Write 0x1F 0xF0 ∷ Write 0x03 0x10 ∷ []
+
+-- a frame that asks for an acknowledge and gets it
+unfoldable pub asking : Frame
+asking = record { identifier = 0xF23; command = 12; bytes = 0xA5 ∷ 0x3C ∷ []; acknowledge = true }
+
+-- behind the last slot the status byte stands at 0xFF, the data from 0x80 on, and CHRx is set
+abbrev pub Stored : List ℕ → Type 0
+Stored m = (getD m 0xFF 0 ≡ 0x82) × (getD m 0x80 0 ≡ 0xA5) × (getD m 0x81 0 ≡ 0x3C) × (getD m 0x82 0 ≡ 0) × (getD m 0x1B 0 ≡ 0x19)

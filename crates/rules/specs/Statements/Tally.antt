@@ -1,0 +1,214 @@
+-- Demand 3's tally (01, Sending: "Demand 3's tally is fed the run's events and driven levels; choices, starts and ends follow by these rules, not from the program's record").
+-- It is a record of its own. Beside the events and the driven levels it looks at what the rules say of the memory map, the mode, the line and the frame under way; never at
+-- anything that the controller records about sending. Its numbers have no largest value.
+--   Stand == where a service stands: away (none), between attempts, opening (the first level of an attempt is answered), inside (the levels driven so far)
+--   verdict == what a driven and a sampled level are for the attempt        countedT, endedT, chooseT, startT == a slot        askedT == a host write
+use Prim.Native.Nat.{ℕ, _+_, _*_, _/_, _%_}
+use mathlib.Core.Bool.{Bool, true, false}
+use mathlib.Core.List.{List, [], _∷_, _++_}
+use lib.Dec.{eqb, ltb}
+use lib.ListN.{length, getD}
+use Rattle.line.specs.Bits.{pick}
+use Rattle.line.specs.Frame.{Frame, size}
+use Rattle.line.specs.Layout.{partOf, halfOf}
+use Rattle.line.specs.declared.Part.{Part}
+use Rattle.line.specs.declared.Part.the-variants.{Start, Identifier, Command, Data, Check, EndOfData, Acknowledge, EndOfFrame, After}
+use Rattle.line.specs.declared.Half.{Half}
+use Rattle.line.specs.declared.Half.the-variants.{Plain, First, Second}
+use Rattle.rules.specs.Definitions.Registers.{both, command, transmitControl, retrySetting, autonomous, asksRearbitration}
+use Rattle.rules.specs.Definitions.Channels.{base, cher, lowestReady}
+use Rattle.rules.specs.Definitions.Mailbox.{sentFrame}
+use Rattle.rules.specs.Definitions.Reception.{free, underWay, startEnded}
+use Rattle.rules.specs.declared.Choice.{Choice}
+use Rattle.rules.specs.declared.Choice.the-variants.{Nothing, Lowest}
+use Rattle.rules.specs.declared.Line.{Line}
+use Rattle.rules.specs.declared.Reception.{Reception}
+
+pub data Stand : Type 0 where
+  away : Stand
+  between : Stand
+  opening : ℕ → Stand
+  inside : ℕ → List ℕ → Stand
+
+pub record Tally : Type 0 where
+  pub stand : Stand
+  pub channel : ℕ
+  pub frame : Frame
+  pub setting : ℕ
+  pub lost : ℕ
+  pub errors : ℕ
+  pub slots : ℕ
+  pub abort : Bool
+  pub rear : Bool
+
+unfoldable pub noFrame : Frame
+noFrame = record { identifier = 0; command = 0; bytes = []; acknowledge = false }
+
+-- no service
+unfoldable pub none : Tally
+none = record { stand = away; channel = 0; frame = noFrame; setting = 0; lost = 0; errors = 0; slots = 0; abort = false; rear = false }
+
+-- ---- a driven level d and a sampled level v in slot k of a frame
+
+pub data Verdict : Type 0 where
+  goes : Verdict
+  contended : Verdict
+  failed : Verdict
+  sent : Verdict
+
+-- "the acknowledge, whose due pattern is RAK's"
+unfoldable pub asksAcknowledge : Frame → Bool
+asksAcknowledge f = eqb (f .command / 4 % 2) 1
+
+unfoldable pub dueLevel : Frame → ℕ → ℕ → ℕ
+dueLevel f k d = pick (eqb k (51 + 10 * length (f .bytes))) (pick (asksAcknowledge f) 0 d) d
+
+-- "a plain bit or first half of a pair"
+unfoldable pub openHalf : Half → Bool
+openHalf Plain = true
+openHalf First = true
+openHalf Second = false
+
+-- "of identifier, command or data"
+unfoldable pub arbitrated : Part → Bool
+arbitrated Start = false
+arbitrated Identifier = true
+arbitrated Command = true
+arbitrated Data = true
+arbitrated Check = false
+arbitrated EndOfData = false
+arbitrated Acknowledge = false
+arbitrated EndOfFrame = false
+arbitrated After = false
+
+-- "Recessive driven and dominant sampled .. is lost contention"; "Every other difference is an error"
+unfoldable pub verdict : Frame → ℕ → ℕ → ℕ → Verdict
+verdict f k d v =
+    pick (eqb v (dueLevel f k d)) (pick (ltb (k + 1) (size (length (f .bytes)))) goes sent)
+    (pick (both (eqb d 1) (both (openHalf (halfOf (length (f .bytes)) k)) (arbitrated (partOf (length (f .bytes)) k)))) contended failed)
+
+-- ---- a slot
+
+unfoldable pub tallied : Tally → Stand → ℕ → ℕ → ℕ → Tally
+tallied t s lost errors slots =
+    record {
+      stand = s;
+      channel = t .channel;
+      frame = t .frame;
+      setting = t .setting;
+      lost = t .lost + lost;
+      errors = t .errors + errors;
+      slots = t .slots + slots;
+      abort = t .abort;
+      rear = t .rear;
+    }
+
+-- "Each accepted slot of an attempt adds 1 to slots .. An attempt lost there adds 1 to C, one that fails there 1 to errors."
+unfoldable pub judgedAs : Verdict → Tally → ℕ → List ℕ → Tally
+judgedAs goes t start levels = tallied t (inside start levels) 0 0 1
+judgedAs contended t start levels = tallied t between 1 0 1
+judgedAs failed t start levels = tallied t between 0 1 1
+judgedAs sent t start levels = tallied t away 0 0 1
+
+unfoldable pub countedIn : Stand → Tally → ℕ → ℕ → Tally
+countedIn away t d v = t
+countedIn between t d v = t
+countedIn (opening start) t d v = judgedAs (verdict (t .frame) start d v) t start (d ∷ [])
+countedIn (inside start levels) t d v = judgedAs (verdict (t .frame) (start + length levels) d v) t start (levels ++ (d ∷ []))
+
+unfoldable pub countedT : Tally → ℕ → ℕ → Tally
+countedT t d v = countedIn (t .stand) t d v
+
+-- between attempts a service is given up by error R + 1, by an abort or by REAR
+unfoldable pub givenUp : Tally → Bool
+givenUp t = pick (ltb (t .setting) (t .errors)) true (pick (t .abort) true (t .rear))
+
+unfoldable pub endedIn : Stand → Tally → Tally
+endedIn away t = none
+endedIn between t = pick (givenUp t) none t
+endedIn (opening start) t = pick (givenUp t) none t
+endedIn (inside start levels) t = t
+
+unfoldable pub endedT : Tally → Tally
+endedT t = endedIn (t .stand) t
+
+-- "The choice sets the fixed frame, n, R (MR) and zero counts."
+unfoldable pub chosenT : List ℕ → ℕ → Tally
+chosenT m c =
+    record {
+      stand = between;
+      channel = c;
+      frame = sentFrame m c;
+      setting = retrySetting (getD m transmitControl 0);
+      lost = 0;
+      errors = 0;
+      slots = 0;
+      abort = false;
+      rear = false;
+    }
+
+unfoldable pub choiceT : List ℕ → Choice → Tally
+choiceT m Nothing = none
+choiceT m (Lowest c) = chosenT m c
+
+-- "if active with no frame under way and no service"
+unfoldable pub chooseIn : Stand → Tally → List ℕ → Bool → Reception → Tally
+chooseIn away t m active r = pick active (pick (underWay (r .place)) t (choiceT m (lowestReady m 30))) t
+chooseIn between t m active r = t
+chooseIn (opening start) t m active r = t
+chooseIn (inside start levels) t m active r = t
+
+unfoldable pub chooseT : Tally → List ℕ → Bool → Reception → Tally
+chooseT t m active r = chooseIn (t .stand) t m active r
+
+unfoldable pub standing : Tally → Stand → Tally
+standing t s = tallied t s 0 0 0
+
+-- "MT 1 starts at once on a free line; either type joins a clean start sequence."
+unfoldable pub startIn : Stand → Tally → List ℕ → Line → Reception → Tally
+startIn away t m l r = t
+startIn between t m l r =
+    pick (startEnded r) (standing t (opening 10))
+    (pick (underWay (r .place)) t (pick (both (autonomous (getD m transmitControl 0)) (free l)) (standing t (opening 0)) t))
+startIn (opening start) t m l r = t
+startIn (inside start levels) t m l r = t
+
+unfoldable pub startT : Tally → List ℕ → Line → Reception → Tally
+startT t m l r = startIn (t .stand) t m l r
+
+-- ---- a host write
+
+unfoldable pub isAway : Stand → Bool
+isAway away = true
+isAway between = false
+isAway (opening start) = false
+isAway (inside start levels) = false
+
+unfoldable pub asking : Tally → Bool → Bool → Tally
+asking t abort rear =
+    record {
+      stand = t .stand;
+      channel = t .channel;
+      frame = t .frame;
+      setting = t .setting;
+      lost = t .lost;
+      errors = t .errors;
+      slots = t .slots;
+      abort = abort;
+      rear = rear;
+    }
+
+-- "Writing CHER 1 to the channel (abort) or REAR"
+unfoldable pub asks : Tally → ℕ → ℕ → Tally
+asks t address v =
+    pick (eqb address command) (pick (asksRearbitration v) (asking t (t .abort) true) t)
+    (pick (both (eqb address (base (t .channel) + 3)) (cher v)) (asking t true (t .rear)) t)
+
+unfoldable pub askedIn : Stand → Tally → ℕ → ℕ → Tally
+askedIn away t address v = t
+askedIn between t address v = asks t address v
+askedIn (opening start) t address v = asks t address v
+askedIn (inside start levels) t address v = asks t address v
+
+unfoldable pub askedT : Tally → ℕ → ℕ → Tally
+askedT t address v = askedIn (t .stand) t address v

@@ -1,0 +1,183 @@
+-- Laws of the whole session: its bytes are those of its header, of the events read, and what follows them.
+use Prim.Native.Nat.{ℕ, zero, suc, _+_, _-_, _*_, _<_, _≤_}
+use mathlib.Core.List.{List, [], _∷_, _++_, append-assoc, append-nil}
+use mathlib.Core.Path.{_≡_, refl, ap, _∙_}
+use native.Mathlib.Omega.{arith}
+use native.Mathlib.Nat.{add-zero, zero-add, suc-add}
+use borrow.Author.Tests.{ltb-false, le-ltb}
+use lib.Dec.{ltb, lit<}
+use lib.ListN.{length, drop, take, length-append, drop-of-length-le}
+use lib.Seq.{take-append-add}
+use Rattle.leb128.specs.Number.{Bytes, written}
+use Rattle.leb128.proofs.GroupLaws.{either, written-small, written-most, written-grows}
+use Rattle.session.specs.declared.Fault.{Fault}
+use Rattle.session.specs.declared.Event.{Event}
+use Rattle.session.specs.declared.Event.the-variants.{Reset, Write, Read, Slot, Mark}
+use Rattle.session.specs.declared.Header.{Header}
+use Rattle.session.specs.declared.Header.the-variants.{Good, Bad as BadHeader}
+use Rattle.session.specs.declared.Item.{Item}
+use Rattle.session.specs.declared.Item.the-variants.{Next, Bad as BadItem}
+use Rattle.session.specs.declared.End.{End}
+use Rattle.session.specs.declared.End.the-variants.{Clean, Bad as BadEnd}
+use Rattle.session.specs.Reading.{headerAt, eventAt, endAt, Events, follow, eventsAt, Reading, NoHeader, Counted, started, session}
+use Rattle.session.specs.Writing.{eventBytes, eventsBytes, sessionBytes, AllFit}
+use Rattle.session.proofs.Walk.{counts, goes-on}
+use Rattle.session.proofs.Form.{Form, within, onward, drop-after, HeaderIs, header-is, header-back, ItemIs, event-is, event-back}
+
+-- How the reading of n of the events due ended, at the place m: with nothing left, or with a fault at m or after it.
+unfoldable pub EndIs : ℕ → List ℕ → ℕ → ℕ → End → Type 0
+EndIs due s m n Clean = (n ≡ due) × (m ≡ length s)
+EndIs due s m n (BadEnd f p) = (n ≤ due) × (m ≤ p) × (p ≤ length s)
+
+pub record EventsAre (due : ℕ) (s : List ℕ) (at : ℕ) (r : Events) : Type 0 where
+  pub last : ℕ
+  pub form : Form s at (eventsBytes (r .events)) last
+  pub fit : AllFit (r .events)
+  pub ends : EndIs due s last (length (r .events)) (r .end)
+
+none-read : (s : List ℕ) (at : ℕ) → Form s at (eventsBytes []) at
+unfolding eventsBytes
+none-read s at = record { bytes = refl; place = omega arith }
+
+end-is : (s : List ℕ) (at : ℕ) → at ≤ length s → EndIs 0 s at 0 (endAt s at)
+unfolding endAt EndIs
+end-is s at h = either (EndIs 0 s at 0) (ltb at (length s)) (λ q. omega arith) (λ q. let l = ltb-false at (length s) q in omega arith)
+
+one-more : (due : ℕ) (s : List ℕ) (m n : ℕ) (e : End) → EndIs due s m n e → EndIs (suc due) s m (suc n) e
+unfolding EndIs
+one-more due s m n Clean h = omega arith
+one-more due s m n (BadEnd f p) h = omega arith
+
+module _ (s : List ℕ) (b : Bytes s) where
+  after-item : (due at : ℕ) → at ≤ length s → (i : Item) → ItemIs s at i → ((next : ℕ) → next ≤ length s → EventsAre due s next (eventsAt due s next))
+      → EventsAre (suc due) s at (follow i (λ next. eventsAt due s next))
+  unfolding follow ItemIs AllFit EndIs eventsBytes
+  after-item due at h (BadItem f p) e rest = record { last = at; form = none-read s at; fit = tt; ends = omega arith }
+  after-item due at h (Next v next) e rest =
+      let r = rest next (within h (e .1)) in
+      record { last = r .last; form = onward (e .1) (r .form); fit = (e .0, r .fit); ends = one-more due s (r .last) (length ((eventsAt due s next) .events)) ((eventsAt due s next) .end) (r .ends) }
+
+  events-are : (due at : ℕ) → at ≤ length s → EventsAre due s at (eventsAt due s at)
+  unfolding eventsAt AllFit
+  events-are zero at h = record { last = at; form = none-read s at; fit = tt; ends = end-is s at h }
+  events-are (suc due) at h = after-item due at h (eventAt s at) (event-is s at b h) (events-are due)
+
+-- The header and the events of a whole session.
+pub record Whole (most : ℕ) (s : List ℕ) (c : ℕ) (r : Events) : Type 0 where
+  pub most-due : c ≤ most
+  pub count-fits : c ≤ 65535
+  pub first : ℕ
+  pub header : Form s 0 (written 1 ++ written c) first
+  pub read : EventsAre c s first r
+
+unfoldable pub SessionIs : ℕ → List ℕ → Reading → Type 0
+SessionIs most s (NoHeader f p) = p ≤ length s
+SessionIs most s (Counted c r) = Whole most s c r
+
+module _ (most : ℕ) (s : List ℕ) (b : Bytes s) where
+  started-is : (h : Header) → HeaderIs most s 0 h → SessionIs most s (started s h)
+  unfolding started HeaderIs SessionIs
+  started-is (BadHeader f p) e = e
+  started-is (Good c next) e =
+      record { most-due = e .0; count-fits = e .1; first = next; header = e .2; read = events-are s b c next (within (omega arith) (e .2)) }
+
+  pub session-is : SessionIs most s (session most s)
+  unfolding session
+  session-is = started-is (headerAt most s 0) (header-is most s 0 b (omega arith))
+
+  pub whole : (c : ℕ) (r : Events) → session most s ≡ Counted c r → Whole most s c r
+  unfolding SessionIs
+  whole c r e = rw e at session-is
+
+-- A session that begins with a header and events reads them, whatever follows.
+abbrev pub prepend : List Event → Events → Events
+prepend es r = record { events = es ++ r .events; end = r .end }
+
+events-back : (es : List Event) (j : ℕ) (s : List ℕ) (at : ℕ) (u : List ℕ) → AllFit es → drop at s ≡ eventsBytes es ++ u
+    → eventsAt (length es + j) s at ≡ prepend es (eventsAt j s (at + length (eventsBytes es)))
+unfolding AllFit eventsBytes
+events-back [] j s at u h e = rw (zero-add, add-zero)
+events-back (v ∷ es) j s at u h e =
+    let f = e ∙ append-assoc (eventBytes v) (eventsBytes es) u in
+    let next = at + length (eventBytes v) in
+    let i = events-back es j s next u (h .1) (drop-after s at (eventBytes v) (eventsBytes es ++ u) f) in
+    let m : at + length (eventBytes v) + length (eventsBytes es) ≡ at + length (eventBytes v ++ eventsBytes es) = omega (arith, length-append (eventBytes v) (eventsBytes es)) in
+    rw (suc-add, goes-on s at (length es + j) (event-back s at (eventsBytes es ++ u) v (h .0) f), i, m)
+
+module _ (most c : ℕ) (s u : List ℕ) (es : List Event) (h : c ≤ most) (k : c ≤ 65535) (fit : AllFit es) (n : length es ≤ c) (e : s ≡ written 1 ++ written c ++ eventsBytes es ++ u) where
+  pub begins : session most s ≡ Counted c (prepend es (eventsAt (c - length es) s (length (written 1 ++ written c ++ eventsBytes es))))
+  begins =
+      let f = e ∙ append-assoc (written 1 ++ written c) (eventsBytes es) u in
+      let g = drop-after s 0 (written 1 ++ written c) (eventsBytes es ++ u) f in
+      let d : c ≡ length es + (c - length es) = omega arith in
+      let i = events-back es (c - length es) s (0 + length (written 1 ++ written c)) u fit g in
+      let m : 0 + length (written 1 ++ written c) + length (eventsBytes es) ≡ length (written 1 ++ written c ++ eventsBytes es) = omega (arith, length-append (written 1 ++ written c) (eventsBytes es)) in
+      counts most s (header-back most s 0 c (eventsBytes es ++ u) h k f) ∙ ap (Counted c) (ap (λ (x : ℕ). eventsAt x s (0 + length (written 1 ++ written c))) d ∙ i ∙ rw m)
+
+bad-end : (due : ℕ) (s : List ℕ) (m n : ℕ) (x : End) (f : Fault) (p : ℕ) → x ≡ BadEnd f p → EndIs due s m n x → (n ≤ due) × (m ≤ p) × (p ≤ length s)
+unfolding EndIs
+bad-end due s m n x f p e h = rw e at h
+
+clean-end : (due : ℕ) (s : List ℕ) (m n : ℕ) (x : End) → x ≡ Clean → EndIs due s m n x → (n ≡ due) × (m ≡ length s)
+unfolding EndIs
+clean-end due s m n x e h = rw e at h
+
+-- The bytes before the place where the reading ended.
+module _ (most : ℕ) (s : List ℕ) (b : Bytes s) (c : ℕ) (r : Events) (e : session most s ≡ Counted c r) where
+  w : Whole most s c r
+  w = whole most s b c r e
+
+  abbrev front : List ℕ
+  front = written 1 ++ written c ++ eventsBytes (r .events)
+
+  form : Form s 0 front (w .read .last)
+  form = onward (w .header) (w .read .form)
+
+  -- they are read again in front of other bytes
+  pub stays : (f : Fault) (p : ℕ) → r .end ≡ BadEnd f p → (t : List ℕ)
+      → session most (take p s ++ t) ≡ Counted c (prepend (r .events) (eventsAt (c - length (r .events)) (take p s ++ t) (length front)))
+  stays f p i t =
+      let x = bad-end c s (w .read .last) (length (r .events)) (r .end) f p i (w .read .ends) in
+      let m = form .place in
+      let d : p ≡ length front + (p - w .read .last) = omega arith in
+      let y = take (p - w .read .last) (drop (w .read .last) s) in
+      let j : take p s ≡ front ++ y =
+      ap (λ (l : List ℕ). take p l) (form .bytes) ∙ ap (λ (n : ℕ). take n (front ++ drop (w .read .last) s)) d ∙ take-append-add front (drop (w .read .last) s) (p - w .read .last)
+      in
+      begins most c (take p s ++ t) (y ++ t) (r .events) (w .most-due) (w .count-fits) (w .read .fit) (x .0) (ap (λ (l : List ℕ). l ++ t) j ∙ append-assoc front y t)
+
+  -- they are all, if nothing is left
+  pub all : r .end ≡ Clean → s ≡ front
+  all i =
+      let x = clean-end c s (w .read .last) (length (r .events)) (r .end) i (w .read .ends) in
+      let z : drop (w .read .last) s ≡ [] = drop-of-length-le s {i = w .read .last} (omega arith) in
+      form .bytes ∙ ap (λ (l : List ℕ). front ++ l) z ∙ append-nil front
+
+-- How long a written session is.
+one-size : (k n : ℕ) → k < 128 → length (written k ++ written n) ≤ 4
+one-size k n h = let l = written-most n in let m = written-small k h in omega (arith, length-append (written k) (written n))
+
+event-size : (e : Event) → length (eventBytes e) ≤ 7
+unfolding eventBytes
+event-size Reset = let l = written-most 0 in omega arith
+event-size (Write a v) = let k = one-size 1 a (lit< tt) in let l = written-most v in omega (arith, length-append (written 1 ++ written a) (written v))
+event-size (Read n) = let k = one-size 2 n (lit< tt) in omega arith
+event-size (Slot n) = let k = one-size 3 n (lit< tt) in omega arith
+event-size (Mark n) = let k = one-size 4 n (lit< tt) in omega arith
+
+events-size : (es : List Event) → length (eventsBytes es) ≤ 7 * length es
+unfolding eventsBytes
+events-size [] = omega arith
+events-size (e ∷ es) = let h = event-size e in let k = events-size es in omega (arith, length-append (eventBytes e) (eventsBytes es))
+
+pub bound : (most : ℕ) (es : List Event) → length es ≤ most → length (sessionBytes es) ≤ 1 + length (written most) + 7 * most
+unfolding sessionBytes
+bound most es h =
+    let k = written-grows (length es) most h in
+    let l = events-size es in
+    let m = written-small 1 (lit< tt) in
+    omega (arith, length-append (written 1 ++ written (length es)) (eventsBytes es), length-append (written 1) (written (length es)))
+
+pub at-end : (s : List ℕ) → endAt s (length s) ≡ Clean
+unfolding endAt
+at-end s = rw (le-ltb (length s) (length s) (omega arith))
