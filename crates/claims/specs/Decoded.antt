@@ -22,7 +22,7 @@ use Rattle.rules.specs.declared.Event.{Event}
 use Rattle.rules.specs.declared.Event.the-variants.{Reset, Write, Read, Slot}
 
 abbrev pub heardSoFar : Controller → Log → ℕ → List ℕ
-heardSoFar c l levels = l .samples ++ (sampleOf (c .memory) levels ∷ [])
+heardSoFar c l levels = l .samples ++ (sampleOf c levels ∷ [])
 
 -- frame f is valid, the samples are its slots and no other frame's, it is delivered in this slot, and the memory map shows it
 pub record Taken (c : Controller) (l : Log) (levels : ℕ) (f : Frame) : Type 0 where
@@ -46,7 +46,7 @@ pub record Decodes (c : Controller) (l : Log) (levels : ℕ) : Type 0 where
   pub early : (r : Refusal) → reading 30 (heardSoFar c l levels) ≡ refused r → (a : ℕ) → 0x80 ≤ a → getD (next c (Slot levels) .memory) a 0 ≡ getD (c .memory) a 0
   -- a fault is heard only where the samples decode to no valid frame, whatever follows them
   pub fault : (code : ℕ) → hears c levels ≡ Fault code
-      → (rest : List ℕ) (f : Frame) → reading 30 (l .samples ++ (sampleOf (c .memory) levels ∷ rest)) ≡ frame f → Valid (taker l f) f → ⊥
+      → (rest : List ℕ) (f : Frame) → reading 30 (l .samples ++ (sampleOf c levels ∷ rest)) ≡ frame f → Valid (taker l f) f → ⊥
 
 abbrev pub DecodesIn : Controller → Log → Event → Type 0
 DecodesIn c l Reset = Unit {0}

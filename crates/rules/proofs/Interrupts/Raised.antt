@@ -294,7 +294,7 @@ module _ (g : Flags → Bool) (c : Controller) (Cause : Event → Type 0)
     (at-command : (a v : ℕ) → g (resetReport .flags) ≡ true → accepted c (Write a v) ≡ true → resets a (v % 256) ≡ true → Cause (Write a v))
     (clears : (f : Flags) (v : ℕ) → g f ≡ false → g (cleared f v) ≡ false)
     (ends : (a v : ℕ) (f : Flags) → g (endedFlags (stopped (serviceAsked (c .core .service) a v)) f) ≡ g f)
-    (at-slot : (l : ℕ) → Sampled c l → g (flagsOf c) ≡ false → g (sampledSlot c (sampleOf (c .memory) l) .core .report .flags) ≡ true → Cause (Slot l)) where
+    (at-slot : (l : ℕ) → Sampled c l → g (flagsOf c) ≡ false → g (sampledSlot c (sampleOf c l) .core .report .flags) ≡ true → Cause (Slot l)) where
   core-clear : (a v : ℕ) → g (flagsOf c) ≡ false → g (coreWritten (c .core) a v .report .flags) ≡ false
   unfolding coreWritten flagsCleared withReport withFlags
   core-clear a v e =
@@ -335,7 +335,7 @@ module _ (g : Flags → Bool) (c : Controller) (Cause : Event → Type 0)
       go (Read a) (steps.gave value h) i = same (Read a) (accepted-next c none (Read a) value c h) i
       go (Slot l) (steps.went a h) i =
           let s : Sampled c l = record { taken = unfold answered in accepted-so c (Slot l) _ (activeSlot c l) h; active = a } in
-          let n : next c (Slot l) ≡ sampledSlot c (sampleOf (c .memory) l) = slot-sampled c l (s .taken) a in
+          let n : next c (Slot l) ≡ sampledSlot c (sampleOf c l) = slot-sampled c l (s .taken) a in
           at-slot l s b (sym (ap (λ (x : Controller). g (flagsOf x)) n) ∙ i)
       go (Slot l) (steps.rested a h) i =
           let n : next c (Slot l) ≡ c = unfold restedSlot in accepted-next c none (Slot l) _ c h in
@@ -405,7 +405,7 @@ rst-by c =
           only-by (λ f. f .rst) c (Resets c) (λ x i. by-pin i) (λ a v x i d. let r = asks-reset a v d in by-command i (r .0) (r .1))
           (λ f v e. unfold cleared in unless-false (f .rst) (eqb (v / 128) 1) e)
           (λ a v f. ended-same (λ f. f .rst) (λ f. unfold raiseTok in refl) (λ f. unfold raiseTe in refl) (stopped (serviceAsked (c .core .service) a v)) f)
-          (λ l s e h. clash e (sym (slot-rst c (sampleOf (c .memory) l)) ∙ h));
+          (λ l s e h. clash e (sym (slot-rst c (sampleOf c l)) ∙ h));
     }
 
 -- ---- TOK
@@ -428,14 +428,14 @@ not-at-reset e = absurd (false≢true e)
 
 completes-raised : (c : Controller) (e : Event) → Completes c e → flagsOf (next c e) .tok ≡ true
 completes-raised c (Slot l) (completes s d) =
-    let v : ℕ = sampleOf (c .memory) l in
+    let v : ℕ = sampleOf c l in
     ap (λ (x : Controller). flagsOf x .tok) (slot-sampled c l (s .taken) (s .active)) ∙ slot-tok c v
     ∙ ap (λ (w : Verdict). pick (isSent (ending (c .core) w)) true (flagsOf c .tok)) d ∙ ap (λ (b : Bool). pick b true (flagsOf c .tok)) (done-sent (c .core))
 
-completes-slot : (c : Controller) (l : ℕ) → Sampled c l → flagsOf c .tok ≡ false → sampledSlot c (sampleOf (c .memory) l) .core .report .flags .tok ≡ true → Completes c (Slot l)
+completes-slot : (c : Controller) (l : ℕ) → Sampled c l → flagsOf c .tok ≡ false → sampledSlot c (sampleOf c l) .core .report .flags .tok ≡ true → Completes c (Slot l)
 unfolding ending
 completes-slot c l s e h =
-    let v : ℕ = sampleOf (c .memory) l in
+    let v : ℕ = sampleOf c l in
     let p : isSent (ending (c .core) (verdictOf c v)) ≡ true = passed (isSent (ending (c .core) (verdictOf c v))) e (sym (slot-tok c v) ∙ h) in
     completes s (sent-done (verdictOf c v) (serviceJudged (verdictOf c v) (c .core .service)) p)
 
@@ -468,13 +468,13 @@ few-errors e h = le-ltb (e .setting) (e .counters .errors .0) h
 exhausts-raised : (c : Controller) (e : Event) → Exhausts c e → flagsOf (next c e) .te ≡ true
 unfolding isExhausted
 exhausts-raised c (Slot l) (exhausts s d) =
-    let v : ℕ = sampleOf (c .memory) l in
+    let v : ℕ = sampleOf c l in
     ap (λ (x : Controller). flagsOf x .te) (slot-sampled c l (s .taken) (s .active)) ∙ slot-te c v
     ∙ ap (λ (x : Ending). pick (isExhausted x) true (flagsOf c .te)) d
 
-exhausts-slot : (c : Controller) (l : ℕ) → Sampled c l → flagsOf c .te ≡ false → sampledSlot c (sampleOf (c .memory) l) .core .report .flags .te ≡ true → Exhausts c (Slot l)
+exhausts-slot : (c : Controller) (l : ℕ) → Sampled c l → flagsOf c .te ≡ false → sampledSlot c (sampleOf c l) .core .report .flags .te ≡ true → Exhausts c (Slot l)
 exhausts-slot c l s e h =
-    let v : ℕ = sampleOf (c .memory) l in
+    let v : ℕ = sampleOf c l in
     exhausts s (exhausted-is (ending (c .core) (verdictOf c v)) (passed (isExhausted (ending (c .core) (verdictOf c v))) e (sym (slot-te c v) ∙ h)))
 
 te-by : (c : Controller) → Fine c → Raised (λ f. f .te) Exhausts c
@@ -554,7 +554,7 @@ module _ (c : Controller) (f : Fine c) where
 
   te-sound : (e : Event) → Exhausts c e → LastError c e
   te-sound (Slot l) (exhausts s d) =
-      let v : ℕ = sampleOf (c .memory) l in
+      let v : ℕ = sampleOf c l in
       last-named l s refl (last-sound (c .core .service) few small (judged (c .core .service .effort) v) (ended-so (c .core) (verdictOf c v) d))
 
   te-complete : (e : Event) → LastError c e → Exhausts c e
@@ -606,7 +606,7 @@ own-delivery c v d = own-delivers (attempt-judged (c .core .service .effort) v d
 -- a delivery that does something is another module's frame, matched
 module _ (c : Controller) (l : ℕ) (s : Sampled c l) (t : Delivery → Bool) (idle : t Nothing ≡ false) where
   abbrev v : ℕ
-  v = sampleOf (c .memory) l
+  v = sampleOf c l
 
   took : t (deliveryIn c v) ≡ true → Received c l × (t (deliveryTo (hearingIn c l) (c .core .reception)) ≡ true)
   unfolding deliveryOf
@@ -621,10 +621,10 @@ module _ (c : Controller) (l : ℕ) (s : Sampled c l) (t : Delivery → Bool) (i
           let n : deliveryIn c v ≡ deliveryTo (hearingIn c l) (c .core .reception) = other-delivery c v e ∙ ap (λ (x : Bool). pick x (deliveryTo (hearingIn c l) (c .core .reception)) Nothing) d in
           (record { sampled = s; other = e; matched = d }, sym (ap t n) ∙ h)
 
-taken-in : (c : Controller) (l : ℕ) → Received c l → {h : Hearing} → hearingIn c l ≡ h → deliveryIn c (sampleOf (c .memory) l) ≡ deliveryTo h (c .core .reception)
+taken-in : (c : Controller) (l : ℕ) → Received c l → {h : Hearing} → hearingIn c l ≡ h → deliveryIn c (sampleOf c l) ≡ deliveryTo h (c .core .reception)
 unfolding deliveryOf
 taken-in c l r e =
-    other-delivery c (sampleOf (c .memory) l) (r .other)
+    other-delivery c (sampleOf c l) (r .other)
     ∙ ap (λ (x : Bool). pick x (deliveryTo (hearingIn c l) (c .core .reception)) Nothing) (r .matched)
     ∙ ap (λ (x : Hearing). deliveryTo x (c .core .reception)) e
 
@@ -632,12 +632,12 @@ taken-in c l r e =
 
 spoils-raised : (c : Controller) (e : Event) → Spoils c e → flagsOf (next c e) .re ≡ true
 spoils-raised c (Slot l) (fault code r d) =
-    let v : ℕ = sampleOf (c .memory) l in
+    let v : ℕ = sampleOf c l in
     let x : deliveryIn c v ≡ Spoiled = taken-in c l r d ∙ (unfold deliveryTo in refl) in
     ap (λ (x : Controller). flagsOf x .re) (slot-sampled c l (r .sampled .taken) (r .sampled .active)) ∙ slot-re c v
     ∙ ap (λ (y : Delivery). pick (isSpoiled y) true (flagsOf c .re)) x ∙ (unfold isSpoiled in refl)
 spoils-raised c (Slot l) (overflow r d n) =
-    let v : ℕ = sampleOf (c .memory) l in
+    let v : ℕ = sampleOf c l in
     let x : deliveryIn c v ≡ Overflowed = taken-in c l r d ∙ (unfold deliveryTo delivered in rw n) in
     ap (λ (x : Controller). flagsOf x .re) (slot-sampled c l (r .sampled .taken) (r .sampled .active)) ∙ slot-re c v
     ∙ ap (λ (y : Delivery). pick (isSpoiled y) true (flagsOf c .re)) x ∙ (unfold isSpoiled in refl)
@@ -653,9 +653,9 @@ spoils-heard c l r Good e d = overflow r e (go (fitting c) d)
     go true d = not-at-reset (unfold isSpoiled in d)
     go false d = refl
 
-spoils-slot : (c : Controller) (l : ℕ) → Sampled c l → flagsOf c .re ≡ false → sampledSlot c (sampleOf (c .memory) l) .core .report .flags .re ≡ true → Spoils c (Slot l)
+spoils-slot : (c : Controller) (l : ℕ) → Sampled c l → flagsOf c .re ≡ false → sampledSlot c (sampleOf c l) .core .report .flags .re ≡ true → Spoils c (Slot l)
 spoils-slot c l s e h =
-    let v : ℕ = sampleOf (c .memory) l in
+    let v : ℕ = sampleOf c l in
     let t = took c l s isSpoiled (unfold isSpoiled in refl) (passed (isSpoiled (deliveryIn c v)) e (sym (slot-re c v) ∙ h)) in
     spoils-heard c l (t .0) (hearingIn c l) refl (t .1)
 
@@ -673,7 +673,7 @@ re-by c =
 
 -- ---- ROK and RNOK
 
-stored-in : (c : Controller) (l : ℕ) → Received c l → hearingIn c l ≡ Good → fitting c ≡ true → deliveryIn c (sampleOf (c .memory) l) ≡ Stored
+stored-in : (c : Controller) (l : ℕ) → Received c l → hearingIn c l ≡ Good → fitting c ≡ true → deliveryIn c (sampleOf c l) ≡ Stored
 unfolding deliveryTo delivered
 stored-in c l r d n = taken-in c l r d ∙ rw n
 
@@ -688,7 +688,7 @@ stored-heard c l a q r Good e d = stores r e (go (fitting c) d) q
     go true d = refl
     go false d = not-at-reset (unfold isStored in d)
 
-stored-slot : (c : Controller) (l : ℕ) (a : Bool) → rak c ≡ a → Sampled c l → isStored (deliveryIn c (sampleOf (c .memory) l)) ≡ true → Stores a c (Slot l)
+stored-slot : (c : Controller) (l : ℕ) (a : Bool) → rak c ≡ a → Sampled c l → isStored (deliveryIn c (sampleOf c l)) ≡ true → Stores a c (Slot l)
 stored-slot c l a q s h = let t = took c l s isStored (unfold isStored in refl) h in stored-heard c l a q (t .0) (hearingIn c l) refl (t .1)
 
 not-true : (b : Bool) → not b ≡ true → b ≡ false
@@ -698,14 +698,14 @@ not-true false e = refl
 rok-raised : (c : Controller) (e : Event) → Stores true c e → flagsOf (next c e) .rok ≡ true
 unfolding asked isStored
 rok-raised c (Slot l) (stores r d n q) =
-    let v : ℕ = sampleOf (c .memory) l in
+    let v : ℕ = sampleOf c l in
     ap (λ (x : Controller). flagsOf x .rok) (slot-sampled c l (r .sampled .taken) (r .sampled .active)) ∙ slot-rok c v
     ∙ ap (λ (y : Delivery). pick (both (isStored y) (rak c)) true (flagsOf c .rok)) (stored-in c l r d n) ∙ ap (λ (b : Bool). pick b true (flagsOf c .rok)) q
 
 rnok-raised : (c : Controller) (e : Event) → Stores false c e → flagsOf (next c e) .rnok ≡ true
 unfolding asked isStored
 rnok-raised c (Slot l) (stores r d n q) =
-    let v : ℕ = sampleOf (c .memory) l in
+    let v : ℕ = sampleOf c l in
     ap (λ (x : Controller). flagsOf x .rnok) (slot-sampled c l (r .sampled .taken) (r .sampled .active)) ∙ slot-rnok c v
     ∙ ap (λ (y : Delivery). pick (both (isStored y) (not (rak c))) true (flagsOf c .rnok)) (stored-in c l r d n) ∙ ap (λ (b : Bool). pick (not b) true (flagsOf c .rnok)) q
 
@@ -719,7 +719,7 @@ rok-by c =
           (λ f v e. unfold cleared in unless-false (f .rok) (eqb (v / 2 % 2) 1) e)
           (λ a v f. ended-same (λ f. f .rok) (λ f. unfold raiseTok in refl) (λ f. unfold raiseTe in refl) (stopped (serviceAsked (c .core .service) a v)) f)
           (λ l s e h.
-          let b = both-true (isStored (deliveryIn c (sampleOf (c .memory) l))) (rak c) (passed (both (isStored (deliveryIn c (sampleOf (c .memory) l))) (rak c)) e (sym (slot-rok c (sampleOf (c .memory) l)) ∙ h)) in
+          let b = both-true (isStored (deliveryIn c (sampleOf c l))) (rak c) (passed (both (isStored (deliveryIn c (sampleOf c l))) (rak c)) e (sym (slot-rok c (sampleOf c l)) ∙ h)) in
           stored-slot c l true (b .1) s (b .0));
     }
 
@@ -733,7 +733,7 @@ rnok-by c =
           (λ f v e. unfold cleared in unless-false (f .rnok) (eqb (v % 2) 1) e)
           (λ a v f. ended-same (λ f. f .rnok) (λ f. unfold raiseTok in refl) (λ f. unfold raiseTe in refl) (stopped (serviceAsked (c .core .service) a v)) f)
           (λ l s e h.
-          let b = both-true (isStored (deliveryIn c (sampleOf (c .memory) l))) (not (rak c)) (passed (both (isStored (deliveryIn c (sampleOf (c .memory) l))) (not (rak c))) e (sym (slot-rnok c (sampleOf (c .memory) l)) ∙ h)) in
+          let b = both-true (isStored (deliveryIn c (sampleOf c l))) (not (rak c)) (passed (both (isStored (deliveryIn c (sampleOf c l))) (not (rak c))) e (sym (slot-rnok c (sampleOf c l)) ∙ h)) in
           stored-slot c l false (not-true (rak c) (b .1)) s (b .0));
     }
 

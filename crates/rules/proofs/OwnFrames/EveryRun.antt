@@ -130,23 +130,23 @@ base-small ch = omega arith
 -- ---- the slot
 
 -- a slot changes nothing, or it is sampled
-pub slot-cases : (c : Controller) (l : ℕ) (P : Controller → Type 0) → P c → P (sampledSlot c (sampleOf (c .memory) l)) → P (next c (Slot l))
+pub slot-cases : (c : Controller) (l : ℕ) (P : Controller → Type 0) → P c → P (sampledSlot c (sampleOf c l)) → P (next c (Slot l))
 slot-cases c l P same sampled = go (step-of c (Slot l))
   where
     go : Step c (Slot l) → P (next c (Slot l))
     go (steps.refusal n h) = subst P (sym (refused-next c none (Slot l) n h)) same
     go (steps.went a h) =
-        let n : next c (Slot l) ≡ sampledSlot c (sampleOf (c .memory) l) = unfold answered activeSlot in accepted-next c none (Slot l) _ (activeSlot c l) h in
+        let n : next c (Slot l) ≡ sampledSlot c (sampleOf c l) = unfold answered activeSlot in accepted-next c none (Slot l) _ (activeSlot c l) h in
         subst P (sym n) sampled
     go (steps.rested a h) =
         let n : next c (Slot l) ≡ c = unfold restedSlot in accepted-next c none (Slot l) _ c h in
         subst P (sym n) same
 
 -- an accepted slot of an active controller is sampled
-pub slot-sampled : (c : Controller) (l : ℕ) → accepted c (Slot l) ≡ true → isActive (c .core .activity .mode) ≡ true → next c (Slot l) ≡ sampledSlot c (sampleOf (c .memory) l)
+pub slot-sampled : (c : Controller) (l : ℕ) → accepted c (Slot l) ≡ true → isActive (c .core .activity .mode) ≡ true → next c (Slot l) ≡ sampledSlot c (sampleOf c l)
 slot-sampled c l i j = go (step-of c (Slot l))
   where
-    go : Step c (Slot l) → next c (Slot l) ≡ sampledSlot c (sampleOf (c .memory) l)
+    go : Step c (Slot l) → next c (Slot l) ≡ sampledSlot c (sampleOf c l)
     go (steps.refusal n h) = absurd (false≢true (sym (refused-not c none (Slot l) n h) ∙ i))
     go (steps.went a h) = unfold answered activeSlot in accepted-next c none (Slot l) _ (activeSlot c l) h
     go (steps.rested a h) = absurd (false≢true (sym a ∙ j))
@@ -357,7 +357,7 @@ acknowledges-not c t j = recessive-in (t .stand) t (c .core) (unfold serviceOf i
 
 module _ (c : Controller) (l : ℕ) where
   abbrev v : ℕ
-  v = sampleOf (c .memory) l
+  v = sampleOf c l
 
   -- what holds of the map where the slot changes nothing but by the end of the service
   by-map : (P : List ℕ → Type 0) → P (c .memory) → ((x : Ending) → P (memoryEnded x (c .memory) (c .core .service .channel)))

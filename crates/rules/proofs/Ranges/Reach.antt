@@ -157,7 +157,7 @@ sampled-fine c v f = let j = judged (c .core .service .effort) v in judged-fine 
 
 active-fine : (c : Controller) (levels : ℕ) → Fine c → Fine (activeSlot c levels)
 unfolding activeSlot
-active-fine c levels f = sampled-fine c (sampleOf (c .memory) levels) f
+active-fine c levels f = sampled-fine c (sampleOf c levels) f
 
 -- ---- reset
 

@@ -173,7 +173,7 @@ early-memory m r h n a i = go h n
 -- ---- the claims
 
 active-next : (c : Controller) (t : Tally) (levels : ℕ) → accepted c (Slot levels) ≡ true → isActive (c .core .activity .mode) ≡ true → Step c (Slot levels)
-    → next c (Slot levels) ≡ sampledSlot c (sampleOf (c .memory) levels)
+    → next c (Slot levels) ≡ sampledSlot c (sampleOf c levels)
 unfolding answered activeSlot
 active-next c t levels y a (refusal n h) = absurd (false≢true (sym (refused-not c t (Slot levels) n h) ∙ y))
 active-next c t levels y a (went b h) = accepted-next c t (Slot levels) _ (activeSlot c levels) h
@@ -182,9 +182,9 @@ active-next c t levels y a (rested b h) = absurd (false≢true (sym b ∙ a))
 -- ---- a slot, whoever sends
 
 module _ (c : Controller) (levels : ℕ) where
-  begins-frame : role c ≡ Nobody → takesStart (c .core .line) ≡ true → sampleOf (c .memory) levels ≡ 0 → hears c levels ≡ hearing.Follows
+  begins-frame : role c ≡ Nobody → takesStart (c .core .line) ≡ true → sampleOf c levels ≡ 0 → hears c levels ≡ hearing.Follows
   unfolding heard
-  begins-frame q t z = rw q (unfold heardAs hearQuiet in rw (eq-eqb (sampleOf (c .memory) levels) 0 z, t))
+  begins-frame q t z = rw q (unfold heardAs hearQuiet in rw (eq-eqb (sampleOf c levels) 0 z, t))
 
 -- a frame that follows is under way
 follow-under-way : (p : Phase) (r : Reception) (v : ℕ) → r .place .phase ≡ p → underWay (followIn p r v .place) ≡ true
@@ -290,35 +290,35 @@ module _ (m : List ℕ) (k : Core) (v a : ℕ) (i : 128 ≤ a) where
       rw (judge-apart (k .service .effort) v d) (judged-mailbox Unjudged h (unfold delivers in early-memory m (k .reception) h (not-good h g) a i))
 
 module _ (c : Controller) (t : Tally) (levels : ℕ) (y : accepted c (Slot levels) ≡ true) (a : isActive (c .core .activity .mode) ≡ true) where
-  slot-next : next c (Slot levels) ≡ sampledSlot c (sampleOf (c .memory) levels)
+  slot-next : next c (Slot levels) ≡ sampledSlot c (sampleOf c levels)
   slot-next = active-next c t levels y a (step-of c (Slot levels))
 
   heeds-kept : hears c levels ≡ hearing.Follows → isActive (next c (Slot levels) .core .activity .mode) ≡ true → underWay (next c (Slot levels) .core .reception .place) ≡ true
   heeds-kept h =
-      let n : next c (Slot levels) ≡ judgedSlot c (judge (c .core .service .effort) (sampleOf (c .memory) levels)) hearing.Follows (sampleOf (c .memory) levels) = slot-next ∙ (unfold sampledSlot in ap (λ (x : Hearing). judgedSlot c (judge (c .core .service .effort) (sampleOf (c .memory) levels)) x (sampleOf (c .memory) levels)) h) in
-      rw n (kept-judged c (judge (c .core .service .effort) (sampleOf (c .memory) levels)) (sampleOf (c .memory) levels))
+      let n : next c (Slot levels) ≡ judgedSlot c (judge (c .core .service .effort) (sampleOf c levels)) hearing.Follows (sampleOf c levels) = slot-next ∙ (unfold sampledSlot in ap (λ (x : Hearing). judgedSlot c (judge (c .core .service .effort) (sampleOf c levels)) x (sampleOf c levels)) h) in
+      rw n (kept-judged c (judge (c .core .service .effort) (sampleOf c levels)) (sampleOf c levels))
 
-  slot-memory : next c (Slot levels) .memory ≡ memoryJudged (c .memory) (c .core) (judge (c .core .service .effort) (sampleOf (c .memory) levels)) (hears c levels)
+  slot-memory : next c (Slot levels) .memory ≡ memoryJudged (c .memory) (c .core) (judge (c .core .service .effort) (sampleOf c levels)) (hears c levels)
   unfolding sampledSlot judgedSlot
   slot-memory = ap (λ (x : Controller). x .memory) slot-next
 
-  slot-error : next c (Slot levels) .core .report .error ≡ reportAfter (c .core) (judge (c .core .service .effort) (sampleOf (c .memory) levels)) (hears c levels) .error
+  slot-error : next c (Slot levels) .core .report .error ≡ reportAfter (c .core) (judge (c .core .service .effort) (sampleOf c levels)) (hears c levels) .error
   unfolding sampledSlot judgedSlot coreJudged
   slot-error =
       ap (λ (x : Controller). x .core .report .error) slot-next
-      ∙ follows-error (memoryJudged (c .memory) (c .core) (judge (c .core .service .effort) (sampleOf (c .memory) levels)) (hears c levels)) _
+      ∙ follows-error (memoryJudged (c .memory) (c .core) (judge (c .core .service .effort) (sampleOf c levels)) (hears c levels)) _
 
   heeds-mailbox : (role c ≡ Receiver → ⊥) → (b : ℕ) → 128 ≤ b → getD (next c (Slot levels) .memory) b 0 ≡ getD (c .memory) b 0
   heeds-mailbox n b i = ap (λ (x : List ℕ). getD x b 0) slot-memory ∙ go (role c) refl
     where
       quiet-hears : role c ≡ Nobody → isGood (hears c levels) ≡ false
-      quiet-hears e = unfold heard in rw e (unfold heardAs in quiet-not-good (c .core .line) (sampleOf (c .memory) levels))
+      quiet-hears e = unfold heard in rw e (unfold heardAs in quiet-not-good (c .core .line) (sampleOf c levels))
 
       go : (x : Role) → role c ≡ x
-          → getD (memoryJudged (c .memory) (c .core) (judge (c .core .service .effort) (sampleOf (c .memory) levels)) (hears c levels)) b 0 ≡ getD (c .memory) b 0
-      go Nobody e = nobody-mailbox (c .memory) (c .core) (sampleOf (c .memory) levels) b i (hears c levels) (nobody-apart (drivesFrame (c .core .service .effort .progress)) (underWay (c .core .reception .place)) (unfold roleOf in e)) (quiet-hears e)
+          → getD (memoryJudged (c .memory) (c .core) (judge (c .core .service .effort) (sampleOf c levels)) (hears c levels)) b 0 ≡ getD (c .memory) b 0
+      go Nobody e = nobody-mailbox (c .memory) (c .core) (sampleOf c levels) b i (hears c levels) (nobody-apart (drivesFrame (c .core .service .effort .progress)) (underWay (c .core .reception .place)) (unfold roleOf in e)) (quiet-hears e)
       go Receiver e = absurd (n e)
-      go Sender e = sender-mailbox (c .memory) (c .core) (sampleOf (c .memory) levels) b i (hears c levels) (sender-drives (drivesFrame (c .core .service .effort .progress)) (underWay (c .core .reception .place)) (unfold roleOf in e))
+      go Sender e = sender-mailbox (c .memory) (c .core) (sampleOf c levels) b i (hears c levels) (sender-drives (drivesFrame (c .core .service .effort .progress)) (underWay (c .core .reception .place)) (unfold roleOf in e))
 
   heeds : Heeds c levels
   heeds = record { begins = begins-frame c levels; kept = heeds-kept; mailbox = heeds-mailbox }
@@ -335,26 +335,26 @@ module _ (c : Controller) (t : Tally) (l : Log) (i : Logs c l) (levels : ℕ) (y
   invariant : Invariant (c .core .reception) (l .samples)
   invariant = follows .invariant
 
-  hears-is : hears c levels ≡ hearFrame (c .core .reception) 30 (sampleOf (c .memory) levels)
-  hears-is = let z = receiver-is c q in heard-receiver (c .core) _ (sampleOf (c .memory) levels) (z .0) (z .1)
+  hears-is : hears c levels ≡ hearFrame (c .core .reception) 30 (sampleOf c levels)
+  hears-is = let z = receiver-is c q in heard-receiver (c .core) _ (sampleOf c levels) (z .0) (z .1)
 
   next-memory : next c (Slot levels) .memory ≡ memoryDelivered (deliveryOf (hears c levels) (c .core .reception)) (c .memory) (c .core .reception)
   next-memory =
       let z = receiver-is c q in
       slot-memory c t levels y a
-      ∙ ap (λ (w : Verdict). memoryJudged (c .memory) (c .core) w (hears c levels)) (judge-apart (c .core .service .effort) (sampleOf (c .memory) levels) (z .0))
+      ∙ ap (λ (w : Verdict). memoryJudged (c .memory) (c .core) w (hears c levels)) (judge-apart (c .core .service .effort) (sampleOf c levels) (z .0))
       ∙ unjudged-memory (c .memory) (c .core) (hears c levels) (i .stands .going)
 
   next-error : next c (Slot levels) .core .report .error ≡ reportDelivered (deliveryOf (hears c levels) (c .core .reception)) (reportHeard (hears c levels) (c .core .report)) (c .core .reception) .error
   next-error =
       let z = receiver-is c q in
       slot-error c t levels y a
-      ∙ ap (λ (w : Verdict). reportAfter (c .core) w (hears c levels) .error) (judge-apart (c .core .service .effort) (sampleOf (c .memory) levels) (z .0))
+      ∙ ap (λ (w : Verdict). reportAfter (c .core) w (hears c levels) .error) (judge-apart (c .core .service .effort) (sampleOf c levels) (z .0))
       ∙ unjudged-error (c .core) (hears c levels) (i .stands .going)
 
   taken : hears c levels ≡ hearing.Good → Taken c l levels
   taken h =
-      let w = invariant-good (c .core .reception) (l .samples) invariant (sampleOf (c .memory) levels) (sample-small (c .memory) levels) (sym hears-is ∙ h) in
+      let w = invariant-good (c .core .reception) (l .samples) invariant (sampleOf c levels) (sample-small c levels) (sym hears-is ∙ h) in
       let n : c .core .reception .winner ≡ taker l (w .frame) = taker-is (c .core .reception) l follows (w .frame) (w .high-is) (w .low-is) in
       record {
         frame = w .frame;
@@ -373,11 +373,11 @@ module _ (c : Controller) (t : Tally) (l : Log) (i : Logs c l) (levels : ℕ) (y
   delivers-slot =
       record {
         good = taken;
-        complete = λ f g e. hears-is ∙ invariant-last (c .core .reception) (l .samples) invariant f g (sampleOf (c .memory) levels) e;
+        complete = λ f g e. hears-is ∙ invariant-last (c .core .reception) (l .samples) invariant f g (sampleOf c levels) e;
         faultless =
             λ code h f g v rest e.
-            invariant-fault (c .core .reception) (l .samples) invariant f g (valid-as (taker-opens (c .core .reception) l follows f g (sampleOf (c .memory) levels ∷ rest) e) v) (sampleOf (c .memory) levels) code rest e (sym hears-is ∙ h);
-        silent = λ h. invariant-silent (c .core .reception) (l .samples) invariant (sampleOf (c .memory) levels) (sym hears-is ∙ h);
+            invariant-fault (c .core .reception) (l .samples) invariant f g (valid-as (taker-opens (c .core .reception) l follows f g (sampleOf c levels ∷ rest) e) v) (sampleOf c levels) code rest e (sym hears-is ∙ h);
+        silent = λ h. invariant-silent (c .core .reception) (l .samples) invariant (sampleOf c levels) (sym hears-is ∙ h);
         early = λ n b h. ap (λ (x : List ℕ). getD x b 0) next-memory ∙ early-memory (c .memory) (c .core .reception) (hears c levels) n b h;
       }
 

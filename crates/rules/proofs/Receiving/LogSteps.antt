@@ -327,11 +327,11 @@ input-small levels input =
     picked (λ (x : ℕ). x < 2) (eqb input 1) (levels / 2 % 2) _ (λ e. omega arith)
     (λ e. picked (λ (x : ℕ). x < 2) (eqb input 2) (levels / 4 % 2) (levels % 2) (λ d. omega arith) (λ d. omega arith))
 
-pub sample-small : (m : List ℕ) (levels : ℕ) → sampleOf m levels < 2
+pub sample-small : (c : Controller) (levels : ℕ) → sampleOf c levels < 2
 unfolding sampleOf sampled inverted
-sample-small m levels =
-    let i : ℕ = inputLevel levels (selectedInput (getD m diagnosisControl 0)) in
-    picked (λ (x : ℕ). x < 2) (invertsReceive (getD m lineControl 0)) (1 - i % 2) i (λ e. omega arith) (λ e. input-small levels (selectedInput (getD m diagnosisControl 0)))
+sample-small c levels =
+    let i : ℕ = inputLevel levels (selectedInput (getD (c .memory) diagnosisControl 0)) in
+    picked (λ (x : ℕ). x < 2) (invertsReceive (getD (c .memory) lineControl 0)) (1 - i % 2) i (λ e. omega arith) (λ e. input-small levels (selectedInput (getD (c .memory) diagnosisControl 0)))
 
 module _ (c : Controller) (t : Tally) (l : Log) (i : Logs c l) (j : Joined c t) where
   judged-logs : (v : ℕ) → v < 2 → (m : List ℕ)
@@ -348,10 +348,10 @@ module _ (c : Controller) (t : Tally) (l : Log) (i : Logs c l) (j : Joined c t) 
   slot-logs : (levels : ℕ) → isActive (c .core .activity .mode) ≡ true → step c (Slot levels) ≡ answered (activeSlot c levels) → Logs (next c (Slot levels)) (logNext c l (Slot levels))
   unfolding answered activeSlot logIn
   slot-logs levels a h =
-      let v : ℕ = sampleOf (c .memory) levels in
+      let v : ℕ = sampleOf c levels in
       let n : next c (Slot levels) ≡ sampledSlot c v = accepted-next c t (Slot levels) _ (activeSlot c levels) h in
       let y : accepted c (Slot levels) ≡ true = is-accepted c l (Slot levels) _ (activeSlot c levels) h in
-      logs-next c l (Slot levels) {n = sampledLog l v (sampledSlot c v .memory)} (rw n (sampled-logs v (sample-small (c .memory) levels))) (rw (y, a, n))
+      logs-next c l (Slot levels) {n = sampledLog l v (sampledSlot c v .memory)} (rw n (sampled-logs v (sample-small c levels))) (rw (y, a, n))
 
   pub next-logs : (e : Event) → Step c e → Logs (next c e) (logNext c l e)
   next-logs e (refusal n h) =

@@ -183,7 +183,7 @@ only-then false x e h = absurd (false≢true (sym e ∙ h))
 module _ (c : Controller) (t : Tally) (j : Joined c t) (f : Fine c) where
   slot-claim : (l : ℕ) → isActive (c .core .activity .mode) ≡ true → step c (Slot l) ≡ answered (activeSlot c l) → Claim c t (Slot l)
   slot-claim l a h =
-      let v : ℕ = sampleOf (c .memory) l in
+      let v : ℕ = sampleOf c l in
       let n : next c (Slot l) ≡ sampledSlot c v = unfold activeSlot answered in accepted-next c t (Slot l) _ (activeSlot c l) h in
       let i : seenIn c t (Slot l) ≡ countedT t (drives (c .core)) v = unfold seenIn in rw a in
       let o : seenT c t (Slot l) ≡ seenIn c t (Slot l) = unfold answered in accepted-seen c t (Slot l) _ (activeSlot c l) h in
@@ -218,7 +218,7 @@ module _ (c : Controller) (t : Tally) (j : Joined c t) (f : Fine c) where
   went-joined : (l : ℕ) → isActive (c .core .activity .mode) ≡ true → step c (Slot l) ≡ answered (activeSlot c l) → Joined (next c (Slot l)) (nextT c t (Slot l))
   unfolding answered activeSlot followIn seenIn
   went-joined l a h =
-      let v : ℕ = sampleOf (c .memory) l in
+      let v : ℕ = sampleOf c l in
       let n : next c (Slot l) ≡ sampledSlot c v = accepted-next c t (Slot l) _ (activeSlot c l) h in
       let o : nextT c t (Slot l) ≡ followIn c t (Slot l) = accepted-tally c t (Slot l) _ (activeSlot c l) h in
       let i : followIn c t (Slot l) ≡ afterSlot (endedT (countedT t (drives (c .core)) v)) (next c (Slot l)) = rw a in

@@ -114,8 +114,9 @@ drives k = drivesAs (roleOf (k .service .effort .progress) (k .reception .place)
 
 -- ---- the slot
 
-unfoldable pub sampleOf : List ℕ → ℕ → ℕ
-sampleOf m levels = sampled (getD m lineControl 0) (getD m diagnosisControl 0) levels
+-- the level sampled of a slot's three
+unfoldable pub sampleOf : Controller → ℕ → ℕ
+sampleOf c levels = sampled (getD (c .memory) lineControl 0) (getD (c .memory) diagnosisControl 0) levels
 
 -- memory map and state after a sample v that is w for the attempt and h for the line
 unfoldable pub judgedSlot : Controller → Verdict → Hearing → ℕ → Controller
@@ -130,4 +131,4 @@ sampledSlot c v =
     judgedSlot c (judge (c .core .service .effort) v) (heard (c .core) (judge (c .core .service .effort) v) v) v
 
 unfoldable pub activeSlot : Controller → ℕ → Controller
-activeSlot c levels = sampledSlot c (sampleOf (c .memory) levels)
+activeSlot c levels = sampledSlot c (sampleOf c levels)

@@ -68,7 +68,7 @@ pub record Received (c : Controller) (levels : ℕ) : Type 0 where
 
 -- the receiver's judgement of the slot: Good in the eighth end-of-frame slot of a valid frame
 abbrev pub hearingIn : Controller → ℕ → Hearing
-hearingIn c levels = hearFrame (c .core .reception) longest (sampleOf (c .memory) levels)
+hearingIn c levels = hearFrame (c .core .reception) longest (sampleOf c levels)
 
 -- "n + 1 is at most M_L"
 abbrev pub fitting : Controller → Bool

@@ -28,7 +28,7 @@ abbrev pub sends : Controller → Bool
 sends c = drivesFrame (c .core .service .effort .progress)
 
 abbrev pub verdictIn : Controller → ℕ → Verdict
-verdictIn c levels = judge (c .core .service .effort) (sampleOf (c .memory) levels)
+verdictIn c levels = judge (c .core .service .effort) (sampleOf c levels)
 
 -- +3 of the channel in service, which holds M_L, CHER, CHTx and CHRx
 abbrev pub statusAt : Controller → ℕ

@@ -68,7 +68,7 @@ unfoldable pub logIn : Controller → Log → Event → Log
 logIn c l Reset = l
 logIn c l (Write address value) = l
 logIn c l (Read address) = l
-logIn c l (Slot levels) = pick (isActive (c .core .activity .mode)) (sampledLog l (sampleOf (c .memory) levels) (next c (Slot levels) .memory)) l
+logIn c l (Slot levels) = pick (isActive (c .core .activity .mode)) (sampledLog l (sampleOf c levels) (next c (Slot levels) .memory)) l
 
 -- a refused event adds nothing; no log outlives its frame
 unfoldable pub logNext : Controller → Log → Event → Log
@@ -85,12 +85,12 @@ role c = roleOf (c .core .service .effort .progress) (c .core .reception .place)
 
 -- what the sample of a slot is for the line and the frame under way
 abbrev pub hears : Controller → ℕ → Hearing
-hears c levels = heard (c .core) (judge (c .core .service .effort) (sampleOf (c .memory) levels)) (sampleOf (c .memory) levels)
+hears c levels = heard (c .core) (judge (c .core .service .effort) (sampleOf c levels)) (sampleOf c levels)
 
 -- a slot of an active controller, whoever sends
 pub record Heeds (c : Controller) (levels : ℕ) : Type 0 where
   -- with no frame under way a dominant sample begins one where the line takes a start
-  pub begins : role c ≡ Nobody → takesStart (c .core .line) ≡ true → sampleOf (c .memory) levels ≡ 0 → hears c levels ≡ Follows
+  pub begins : role c ≡ Nobody → takesStart (c .core .line) ≡ true → sampleOf c levels ≡ 0 → hears c levels ≡ Follows
   -- a frame that follows stays under way, unless the controller becomes idle
   pub kept : hears c levels ≡ Follows → isActive (next c (Slot levels) .core .activity .mode) ≡ true → underWay (next c (Slot levels) .core .reception .place) ≡ true
   -- a byte of the mailbox changes in no slot but another module's
@@ -100,7 +100,7 @@ pub record Heeds (c : Controller) (levels : ℕ) : Type 0 where
 pub record Taken (c : Controller) (l : Log) (levels : ℕ) : Type 0 where
   pub frame : Frame
   pub fits : Fits 30 frame
-  pub whole : l .samples ++ (sampleOf (c .memory) levels ∷ []) ≡ slots frame
+  pub whole : l .samples ++ (sampleOf c levels ∷ []) ≡ slots frame
   pub valid : Valid (taker l frame) frame
   pub memory : next c (Slot levels) .memory ≡ received (c .memory) (taker l frame) frame
   pub error : next c (Slot levels) .core .report .error ≡ errorAfter (c .core .report .error) (taker l frame) frame
@@ -110,10 +110,10 @@ pub record Delivers (c : Controller) (l : Log) (levels : ℕ) : Type 0 where
   -- what is delivered is a whole valid frame
   pub good : hears c levels ≡ Good → Taken c l levels
   -- a frame whose last slot is reached without a fault is delivered
-  pub complete : (f : Frame) → Fits 30 f → l .samples ++ (sampleOf (c .memory) levels ∷ []) ≡ slots f → hears c levels ≡ Good
+  pub complete : (f : Frame) → Fits 30 f → l .samples ++ (sampleOf c levels ∷ []) ≡ slots f → hears c levels ≡ Good
   -- a fault is heard only where the samples open no valid frame
   pub faultless : (code : ℕ) → hears c levels ≡ Fault code
-      → (f : Frame) → Fits 30 f → Valid (taker l f) f → (rest : List ℕ) → l .samples ++ (sampleOf (c .memory) levels ∷ rest) ≡ slots f → ⊥
+      → (f : Frame) → Fits 30 f → Valid (taker l f) f → (rest : List ℕ) → l .samples ++ (sampleOf c levels ∷ rest) ≡ slots f → ⊥
   -- every other slot follows
   pub silent : hears c levels ≡ Silent → ⊥
   -- before the last slot no byte of the mailbox changes

@@ -28,7 +28,7 @@ unfoldable pub seenIn : Controller → Tally → Event → Tally
 seenIn c t Reset = t
 seenIn c t (Write address value) = t
 seenIn c t (Read address) = t
-seenIn c t (Slot levels) = pick (isActive (c .core .activity .mode)) (countedT t (drives (c .core)) (sampleOf (c .memory) levels)) t
+seenIn c t (Slot levels) = pick (isActive (c .core .activity .mode)) (countedT t (drives (c .core)) (sampleOf c levels)) t
 
 unfoldable pub afterSlot : Tally → Controller → Tally
 afterSlot t c =
