@@ -100,8 +100,8 @@ fn reception_after(h: Hearing, r: Reception, v: u8) -> Reception
 }
 
 // The frame with its winner, taken in the last command slot and held (house).
-fn named(r: Reception, m: &[u8; 256]) -> Reception
-    ensures { λ t. ⌜ t ≡ reception_rule.named r (now (m .entry)) ⌝ }
+fn winner_taken(r: Reception, m: &[u8; 256]) -> Reception
+    ensures { λ t. ⌜ t ≡ reception_rule.winnerTaken r (now (m .entry)) ⌝ }
 {
     let b = r.bytes;
     let w = matching::winner_for(m, b[0], b[1]);
@@ -116,7 +116,7 @@ fn reception_judged(m: &[u8; 256], h: Hearing, r: Reception, v: u8) -> Reception
 {
     let t = reception_after(h, r, v);
     if place::command_ended(t) {
-        return named(t, m);
+        return winner_taken(t, m);
     }
     t
 }

@@ -47,16 +47,6 @@ pub fn quiet() -> Reception
 
 // ---- the frame goes on
 
-// The frame at another place, with other bits.
-fn with_place(r: Reception, p: Place, bits: u8) -> Reception
-    ensures { λ t. ⌜ t ≡ rule.withPlace r p bits ⌝ }
-{
-    let mut t = r;
-    t.place = p;
-    t.bits = bits;
-    t
-}
-
 // The next slot of the same phase.
 fn moved(r: Reception) -> Reception
     requires { ⌜ r .place .at < 255 ⌝ }
@@ -64,14 +54,19 @@ fn moved(r: Reception) -> Reception
 {
     let p = r.place;
     let phase = p.phase;
-    with_place(r, at_place(phase, p.at + 1), r.bits)
+    let mut t = r;
+    t.place = at_place(phase, p.at + 1);
+    t
 }
 
 // The first slot of a phase, with no bits.
 fn entered(r: Reception, phase: Phase) -> Reception
     ensures { λ t. ⌜ t ≡ rule.entered r phase ⌝ }
 {
-    with_place(r, at_place(phase, 0), 0)
+    let mut t = r;
+    t.place = at_place(phase, 0);
+    t.bits = 0;
+    t
 }
 
 // The next slot, with one bit more of the nibble under way or of the acknowledge.
@@ -79,9 +74,9 @@ fn bit_taken(r: Reception, v: u8) -> Reception
     requires { ⌜ r .place .at < 255 ⌝ }
     ensures { λ t. ⌜ t ≡ rule.bitTaken r v ⌝ }
 {
-    let p = r.place;
-    let phase = p.phase;
-    with_place(r, at_place(phase, p.at + 1), r.bits % 8 * 2 + v % 2)
+    let mut t = moved(r);
+    t.bits = r.bits % 8 * 2 + v % 2;
+    t
 }
 
 // A byte with its low half replaced.
@@ -115,25 +110,40 @@ fn more_nibbles(n: u8) -> u8
     67
 }
 
-// A nibble closed by a proper pair.
-fn nibble_taken(r: Reception) -> Reception
-    ensures { λ t. ⌜ t ≡ rule.nibbleTaken r ⌝ }
+// The four bits that were taken, laid behind the whole nibbles.
+fn bits_laid(r: Reception) -> Reception
+    ensures { λ t. ⌜ t ≡ rule.bitsLaid r ⌝ }
 {
     let b = r.bytes;
     let bytes = with_nibble(b, r.nibbles, r.bits);
     let mut t = r;
-    t.place = at_place(Phase::Body, 0);
-    t.nibbles = more_nibbles(r.nibbles);
-    t.bits = 0;
     t.bytes = bytes;
     t
+}
+
+// A nibble closed by a proper pair.
+fn nibble_taken(r: Reception) -> Reception
+    ensures { λ t. ⌜ t ≡ rule.nibbleTaken r ⌝ }
+{
+    let mut t = entered(bits_laid(r), Phase::Body);
+    t.nibbles = more_nibbles(r.nibbles);
+    t
+}
+
+// The end of data: the check's last three bits are laid behind its twelve, with a zero bit behind them.
+fn data_ended(r: Reception) -> Reception
+    ensures { λ t. ⌜ t ≡ rule.dataEnded r ⌝ }
+{
+    entered(bits_laid(r), Phase::Acknowledge)
 }
 
 // The first slot of a start is taken.
 fn begun() -> Reception
     ensures { λ r. ⌜ r ≡ rule.begun ⌝ }
 {
-    with_place(quiet(), at_place(Phase::Start, 1), 0)
+    let mut t = quiet();
+    t.place = at_place(Phase::Start, 1);
+    t
 }
 
 // The start goes on, or the identifier is next.
@@ -156,7 +166,7 @@ fn follow_body(r: Reception, v: u8) -> Reception
         return bit_taken(r, v);
     }
     if v == r.bits % 2 {
-        return entered(r, Phase::Acknowledge);
+        return data_ended(r);
     }
     nibble_taken(r)
 }

@@ -9,5 +9,5 @@ reception-judged-spec =
     (λ c κs. tt)
     (λ c κs. tt)
     (λ c κs. tt)
-    (λ c. simp (c .before .if1 .taken, ← (c .named .ensures), ← (c .before .before .command-ended .ensures), ← (c .before .before .before .reception-after .ensures)))
+    (λ c. simp (c .before .if1 .taken, ← (c .winner-taken .ensures), ← (c .before .before .command-ended .ensures), ← (c .before .before .before .reception-after .ensures)))
     (λ c. simp (c .if1 .left, ← (c .before .command-ended .ensures), ← (c .before .before .reception-after .ensures))))

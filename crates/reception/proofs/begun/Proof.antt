@@ -8,5 +8,4 @@ begun-spec =
     tie.close (tie.spec
     (λ c κs. tt)
     (λ c κs. tt)
-    (λ c κs. tt)
-    (λ c. simp (← (c .with-place .ensures), ← (c .before .at-place .ensures), ← (c .before .before .quiet .ensures))))
+    (λ c. rw (c .at-place .ensures, c .before .quiet .ensures)))

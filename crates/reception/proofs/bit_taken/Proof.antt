@@ -7,9 +7,7 @@ pub bit-taken-spec : {M : Type 1} → statement M
 unfolding bitTaken
 bit-taken-spec =
     tie.close (tie.spec
+    (λ c κs. search needs)
     (λ c. search needs)
-    (λ c κs. tt)
     (λ c. search needs)
-    (λ c. search needs)
-    (λ c κs. tt)
-    (λ c. simp (← (c .with-place .ensures), ← (c .before .before .at-place .ensures))))
+    (λ c. rw (c .before .moved .ensures)))

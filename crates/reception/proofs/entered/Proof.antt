@@ -7,5 +7,4 @@ unfolding entered
 entered-spec =
     tie.close (tie.spec
     (λ c κs. tt)
-    (λ c κs. tt)
-    (λ c. simp (← (c .with-place .ensures), ← (c .before .at-place .ensures))))
+    (λ c. rw (c .at-place .ensures)))

@@ -11,6 +11,6 @@ follow-body-spec =
     (λ c κs. search needs)
     (λ c. simp (lt-ltb _ _ (c .before .if1 .taken), ← (c .bit-taken .ensures)))
     (λ c κs. tt)
-    (λ c. simp (eq-eqb _ _ (c .before .if2 .taken), le-ltb _ _ (c .before .before .before .if1 .left), ← (c .entered .ensures)))
+    (λ c. simp (eq-eqb _ _ (c .before .if2 .taken), le-ltb _ _ (c .before .before .before .if1 .left), ← (c .data-ended .ensures)))
     (λ c κs. tt)
     (λ c. simp (ne-eqb _ _ (c .before .if2 .left), le-ltb _ _ (c .before .before .before .if1 .left), ← (c .nibble-taken .ensures))))

@@ -9,5 +9,4 @@ moved-spec =
     tie.close (tie.spec
     (λ c. search needs)
     (λ c κs. tt)
-    (λ c κs. tt)
-    (λ c. simp (← (c .with-place .ensures), ← (c .before .at-place .ensures))))
+    (λ c. rw (c .at-place .ensures)))

@@ -9,4 +9,4 @@ nibble-taken-spec =
     (λ c κs. tt)
     (λ c κs. tt)
     (λ c κs. tt)
-    (λ c. simp (← (c .more-nibbles .ensures), ← (c .before .at-place .ensures), ← (c .before .before .with-nibble .ensures))))
+    (λ c. rw (c .more-nibbles .ensures, c .before .entered .ensures, c .before .before .bits-laid .ensures)))

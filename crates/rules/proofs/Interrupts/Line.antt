@@ -126,7 +126,7 @@ both-ways : (a b : Bool) → a ≡ true → b ≡ true → both a b ≡ true
 both-ways a b e d = rw (e, d)
 
 module _ (f : Flags) (enable : ℕ) where
-  -- a flag that is 1 and named by the enable byte
+  -- a flag that is 1 and winnerTaken by the enable byte
   at-place : (k : ℕ) (flag : Bool) (digit : ℕ) → bitAt (interruptStatus f) k ≡ bit flag → (digit ≡ 1 → bitAt enable k ≡ 1) → both flag (eqb digit 1) ≡ true → Shared (interruptStatus f) enable
   at-place k flag digit p q e =
       let b = both-true flag (eqb digit 1) e in
@@ -143,8 +143,8 @@ module _ (f : Flags) (enable : ℕ) where
       (λ e. which (both (f .rok) (eqb (enable / 2 % 2) 1)) _ e (at-place 1 (f .rok) (enable / 2 % 2) (p .rok) (λ d. d))
       (at-place 0 (f .rnok) (enable % 2) (p .rnok) (λ d. omega arith))))))
 
-  named : (flag : Bool) (digit : ℕ) → bit flag ≡ 1 → digit ≡ 1 → both flag (eqb digit 1) ≡ true
-  named flag digit p q = both-ways flag (eqb digit 1) (bit-true flag p) (eq-eqb digit 1 q)
+  winnerTaken : (flag : Bool) (digit : ℕ) → bit flag ≡ 1 → digit ≡ 1 → both flag (eqb digit 1) ≡ true
+  winnerTaken flag digit p q = both-ways flag (eqb digit 1) (bit-true flag p) (eq-eqb digit 1 q)
 
   abbrev named-rst : Bool
   named-rst = both (f .rst) (eqb (enable / 128) 1)
@@ -188,24 +188,24 @@ module _ (f : Flags) (enable : ℕ) where
 
   shared-at : (k : ℕ) → enable < 256 → bitAt (interruptStatus f) k ≡ 1 → bitAt enable k ≡ 1 → asserted f enable ≡ true
   shared-at zero h p q =
-      let t : named-rnok ≡ true = named (f .rnok) (enable % 2) (sym (places f .rnok) ∙ p) (omega arith) in
+      let t : named-rnok ≡ true = winnerTaken (f .rnok) (enable % 2) (sym (places f .rnok) ∙ p) (omega arith) in
       from-rok (after-first named-rok named-rnok t)
   shared-at (suc zero) h p q =
-      let t : named-rok ≡ true = named (f .rok) (enable / 2 % 2) (sym (places f .rok) ∙ p) q in
+      let t : named-rok ≡ true = winnerTaken (f .rok) (enable / 2 % 2) (sym (places f .rok) ∙ p) q in
       from-rok (rw t)
   shared-at (suc (suc zero)) h p q =
-      let t : named-re ≡ true = named (f .re) (enable / 4 % 2) (sym (places f .re) ∙ p) q in
+      let t : named-re ≡ true = winnerTaken (f .re) (enable / 4 % 2) (sym (places f .re) ∙ p) q in
       from-tok (after-first named-tok (pick named-re true (pick named-rok true named-rnok)) (rw t))
   shared-at (suc (suc (suc zero))) h p q =
-      let t : named-tok ≡ true = named (f .tok) (enable / 8 % 2) (sym (places f .tok) ∙ p) q in
+      let t : named-tok ≡ true = winnerTaken (f .tok) (enable / 8 % 2) (sym (places f .tok) ∙ p) q in
       from-tok (rw t)
   shared-at (suc (suc (suc (suc zero)))) h p q =
-      let t : named-te ≡ true = named (f .te) (enable / 16 % 2) (sym (places f .te) ∙ p) q in
+      let t : named-te ≡ true = winnerTaken (f .te) (enable / 16 % 2) (sym (places f .te) ∙ p) q in
       from-te t
   shared-at (suc (suc (suc (suc (suc zero))))) h p q = absurd (let z : 0 ≡ 1 = sym (status-5 f) ∙ p in omega arith)
   shared-at (suc (suc (suc (suc (suc (suc zero)))))) h p q = absurd (let z : 0 ≡ 1 = sym (status-6 f) ∙ p in omega arith)
   shared-at (suc (suc (suc (suc (suc (suc (suc zero))))))) h p q =
-      let t : named-rst ≡ true = named (f .rst) (enable / 128) (sym (places f .rst) ∙ p) (omega arith) in
+      let t : named-rst ≡ true = winnerTaken (f .rst) (enable / 128) (sym (places f .rst) ∙ p) (omega arith) in
       from-rst t
   shared-at (suc (suc (suc (suc (suc (suc (suc (suc k)))))))) h p q = absurd (let z : 0 ≡ 1 = sym (none-past (interruptStatus f) k (status-small f)) ∙ p in omega arith)
 

@@ -6,15 +6,16 @@ use mathlib.Core.List.{List}
 use native.Mathlib.Omega.{arith}
 use borrow.Author.Tests.{ltb-true, eqb-true}
 use lib.Dec.{eqb, ltb}
-use lib.ListN.{getD, set}
+use lib.ListN.{getD}
 use Rattle.line.specs.Bits.{Below}
 use Rattle.line.specs.Frame.{start}
 use Rattle.line.proofs.Laws.{picked}
 use Rattle.rules.specs.Definitions.Registers.{both, FV, CV, FCSE}
 use Rattle.rules.specs.Definitions.Channels.{acknowledgeAsked}
-use Rattle.rules.specs.Definitions.Reception.{unsettled, afterGood, takesStart, counted, quiet, begun, withPlace, atPlace, moved, entered, bitTaken, withNibble, moreNibbles, nibbleTaken, followStart, followBody, followAcknowledge, followEnd, followIn, followed, commandEnded, named, dataCount}
+use Rattle.rules.specs.Definitions.Reception.{unsettled, afterGood, takesStart, counted, quiet, begun, atPlace, moved, entered, bitTaken, moreNibbles, bitsLaid, dataEnded, nibbleTaken, followStart, followBody, followAcknowledge, followEnd, followIn, followed, commandEnded, winnerTaken, dataCount}
 use Rattle.rules.proofs.Ranges.Limits.{ReceptionLimits, ReportLimits}
-use Rattle.rules.proofs.Ranges.Bytes.{at-below, set-below, zeros-below, stored-below, retagged-below, cher-below, chrx-below, nobody-limits, winner-limits}
+use Rattle.rules.proofs.Receiving.Rows.{nibble-below}
+use Rattle.rules.proofs.Ranges.Bytes.{at-below, zeros-below, stored-below, retagged-below, cher-below, chrx-below, nobody-limits, winner-limits}
 use Rattle.rules.specs.Definitions.Hearing.{lineAfter, receptionAfter, whole, replyRequest, checkReceived, checkDue, mostNibbles, hearEndOfData, hearSecondHalf, hearBody, hearStart, acknowledges, acknowledgeWrong, hearAcknowledge, hearEnd, hearIn, hearFrame, hearQuiet}
 use Rattle.rules.specs.Definitions.Delivery.{memoryStored, memoryDelivered, withError, withFlags, withMessage, withReceiveError, reportStored, reportHeard, reportDelivered}
 use Rattle.rules.specs.Definitions.Slots.{receptionJudged}
@@ -43,39 +44,40 @@ quiet-received =
     }
 
 begun-received : Received begun
-unfolding begun withPlace atPlace
+unfolding begun atPlace
 begun-received =
     let q = quiet-received in
     record { limits = record { at = omega arith; nibbles = q .limits .nibbles; bits = omega arith; winner = q .limits .winner }; bytes = q .bytes }
 
 moved-received : (r : Reception) → Received r → r .place .at < 9 → Received (moved r)
-unfolding moved withPlace atPlace
+unfolding moved atPlace
 moved-received r f h =
     record { limits = record { at = omega arith; nibbles = f .limits .nibbles; bits = f .limits .bits; winner = f .limits .winner }; bytes = f .bytes }
 
 entered-received : (r : Reception) (p : Phase) → Received r → Received (entered r p)
-unfolding entered withPlace atPlace
+unfolding entered atPlace
 entered-received r p f =
     record { limits = record { at = omega arith; nibbles = f .limits .nibbles; bits = omega arith; winner = f .limits .winner }; bytes = f .bytes }
 
 bit-received : (r : Reception) (v : ℕ) → Received r → r .place .at < 9 → Received (bitTaken r v)
-unfolding bitTaken withPlace atPlace
+unfolding bitTaken moved atPlace
 bit-received r v f h =
     record { limits = record { at = omega arith; nibbles = f .limits .nibbles; bits = omega arith; winner = f .limits .winner }; bytes = f .bytes }
 
-nibble-below : {bytes : List ℕ} → Below 256 bytes → (k nibble : ℕ) → Below 256 (withNibble bytes k nibble)
-unfolding withNibble
-nibble-below {bytes} b k nibble =
-    let h = at-below b (k / 2 % 34) in
-    picked (Below 256) (eqb (k % 2) 0) (set bytes (k / 2 % 34) (nibble % 16 * 16)) _
-    (λ e. set-below b (k / 2 % 34) _ (omega arith)) (λ e. set-below b (k / 2 % 34) _ (omega arith))
+ended-received : (r : Reception) → Received r → Received (dataEnded r)
+unfolding dataEnded bitsLaid entered atPlace
+ended-received r f =
+    record {
+      limits = record { at = omega arith; nibbles = f .limits .nibbles; bits = omega arith; winner = f .limits .winner };
+      bytes = nibble-below (f .bytes) (r .nibbles) (r .bits);
+    }
 
 more-nibbles : (n : ℕ) → moreNibbles n ≤ 67
 unfolding moreNibbles
 more-nibbles n = picked (λ x. x ≤ 67) (ltb n 67) (n + 1) 67 (λ e. omega (arith, ltb-true)) (λ e. omega arith)
 
 nibble-received : (r : Reception) → Received r → Received (nibbleTaken r)
-unfolding nibbleTaken atPlace
+unfolding nibbleTaken bitsLaid entered atPlace
 nibble-received r f =
     record {
       limits = record { at = omega arith; nibbles = more-nibbles (r .nibbles); bits = omega arith; winner = f .limits .winner };
@@ -89,7 +91,7 @@ follow-in Start r v f =
     picked Received (ltb (r .place .at) 9) (moved r) (entered r Body) (λ e. moved-received r f (omega (arith, ltb-true))) (λ e. entered-received r Body f)
 follow-in Body r v f =
     picked Received (ltb (r .place .at) 4) (bitTaken r v) _ (λ e. bit-received r v f (omega (arith, ltb-true)))
-    (λ e. picked Received (eqb v (r .bits % 2)) (entered r Acknowledge) (nibbleTaken r) (λ d. entered-received r Acknowledge f) (λ d. nibble-received r f))
+    (λ e. picked Received (eqb v (r .bits % 2)) (dataEnded r) (nibbleTaken r) (λ d. ended-received r f) (λ d. nibble-received r f))
 follow-in Acknowledge r v f =
     picked Received (eqb (r .place .at) 0) (bitTaken r v) (entered r End) (λ e. bit-received r v f (omega (arith, eqb-true))) (λ e. entered-received r End f)
 follow-in End r v f =
@@ -99,8 +101,8 @@ followed-received : (r : Reception) (v : ℕ) → Received r → Received (follo
 unfolding followed
 followed-received r v f = follow-in (r .place .phase) r v f
 
-named-received : (r : Reception) {m : List ℕ} → Below 256 m → Received r → Received (named r m)
-unfolding named
+named-received : (r : Reception) {m : List ℕ} → Below 256 m → Received r → Received (winnerTaken r m)
+unfolding winnerTaken
 named-received r b f =
     record {
       limits = record { at = f .limits .at; nibbles = f .limits .nibbles; bits = f .limits .bits; winner = winner-limits b _ _ };
@@ -118,7 +120,7 @@ pub judged-received : {m : List ℕ} → Below 256 m → (h : Hearing) (r : Rece
 unfolding receptionJudged
 judged-received {m} b h r v f =
     let a = after-received h r v f in
-    picked Received (commandEnded (receptionAfter h r v)) (named (receptionAfter h r v) m) (receptionAfter h r v) (λ e. named-received _ b a) (λ e. a)
+    picked Received (commandEnded (receptionAfter h r v)) (winnerTaken (receptionAfter h r v) m) (receptionAfter h r v) (λ e. named-received _ b a) (λ e. a)
 
 -- ---- the line
 

@@ -14,7 +14,7 @@ use Rattle.line.specs.Frame.{Frame, Fits, slots, size}
 use Rattle.line.proofs.Laws.{bits-length, code-length, slots-length, picked}
 use Rattle.rules.specs.Definitions.Channels.{base}
 use Rattle.rules.specs.Definitions.Mailbox.{stored, markedCher, markedChtx}
-use Rattle.rules.specs.Definitions.Reception.{atPlace, isUnderWay, takesStart, underWay, commandEnded, begun, withPlace, moved, entered, bitTaken, nibbleTaken, followStart, followBody, followIn, followed, named, followAcknowledge, followEnd}
+use Rattle.rules.specs.Definitions.Reception.{atPlace, isUnderWay, takesStart, underWay, commandEnded, begun, moved, entered, bitTaken, bitsLaid, dataEnded, nibbleTaken, followStart, followBody, followIn, followed, winnerTaken, followAcknowledge, followEnd}
 use Rattle.rules.specs.Definitions.Hearing.{receptionAfter, hearFrame, hearQuiet, acknowledges, acknowledgeLevel, receiverIn, receiverLevel, fits}
 use Rattle.rules.specs.Statements.Valid.{high, low, owes, Valid}
 use Rattle.rules.proofs.Receiving.Invariant.{InBody, InAcknowledge, InvariantIn, Invariant, Whole}
@@ -188,12 +188,12 @@ module _ (c : Controller) (levels : ℕ) where
 
 -- a frame that follows is under way
 follow-under-way : (p : Phase) (r : Reception) (v : ℕ) → r .place .phase ≡ p → underWay (followIn p r v .place) ≡ true
-unfolding followIn followStart followBody followAcknowledge followEnd moved entered bitTaken nibbleTaken begun withPlace atPlace underWay isUnderWay
+unfolding followIn followStart followBody followAcknowledge followEnd moved entered bitTaken nibbleTaken dataEnded bitsLaid begun atPlace underWay isUnderWay
 follow-under-way Quiet r v e = refl
 follow-under-way Start r v e = picked (λ (x : Reception). underWay (x .place) ≡ true) (ltb (r .place .at) 9) (moved r) (entered r Body) (λ d. rw e) (λ d. refl)
 follow-under-way Body r v e =
     picked (λ (x : Reception). underWay (x .place) ≡ true) (ltb (r .place .at) 4) (bitTaken r v) _ (λ d. rw e)
-    (λ d. picked (λ (x : Reception). underWay (x .place) ≡ true) (eqb v (r .bits % 2)) (entered r Acknowledge) (nibbleTaken r) (λ i. refl) (λ i. refl))
+    (λ d. picked (λ (x : Reception). underWay (x .place) ≡ true) (eqb v (r .bits % 2)) (dataEnded r) (nibbleTaken r) (λ i. refl) (λ i. refl))
 follow-under-way Acknowledge r v e = picked (λ (x : Reception). underWay (x .place) ≡ true) (eqb (r .place .at) 0) (bitTaken r v) (entered r End) (λ d. rw e) (λ d. refl)
 follow-under-way End r v e = picked (λ (x : Reception). underWay (x .place) ≡ true) (ltb (r .place .at) 7) (moved r) r (λ d. rw e) (λ d. rw e)
 
@@ -202,9 +202,9 @@ unfolding followed
 followed-under-way r v = follow-under-way (r .place .phase) r v refl
 
 judged-under-way : (m : List ℕ) (r : Reception) (v : ℕ) → underWay (receptionJudged m hearing.Follows r v .place) ≡ true
-unfolding receptionJudged receptionAfter named
+unfolding receptionJudged receptionAfter winnerTaken
 judged-under-way m r v =
-    picked (λ (x : Reception). underWay (x .place) ≡ true) (commandEnded (followed r v)) (named (followed r v) m) (followed r v) (λ e. followed-under-way r v) (λ e. followed-under-way r v)
+    picked (λ (x : Reception). underWay (x .place) ≡ true) (commandEnded (followed r v)) (winnerTaken (followed r v) m) (followed r v) (λ e. followed-under-way r v) (λ e. followed-under-way r v)
 
 -- a controller that is still active has dropped no frame
 idle-active : (k : Core) → isActive (idleDue k .activity .mode) ≡ true → idleDue k .reception ≡ k .reception

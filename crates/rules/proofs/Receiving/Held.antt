@@ -2,19 +2,21 @@
 use Prim.Native.Nat.{ℕ, suc, _+_, _-_, _*_, _/_, _%_, _^_, _≤_, _<_}
 use mathlib.Core.Bool.{Bool}
 use mathlib.Core.List.{List, [], _∷_, _++_, append-assoc}
-use mathlib.Core.Path.{_≡_, ap, _∙_, sym}
+use mathlib.Core.Path.{_≡_, refl, ap, _∙_, sym}
 use native.Mathlib.Omega.{arith}
-use lib.ListN.{length, getD, take, drop, length-append, length-drop, take-append-drop}
+use lib.ListN.{length, getD, take, drop, replicate, length-append, length-drop, length-replicate, take-append-drop}
 use lib.Seq.{take-at, drop-at, take-append-add, length-take-le, drop-cons}
-use Rattle.line.specs.Bits.{bits, number, Below}
+use Rattle.line.specs.Bits.{bits, number, Below, none, one}
 use Rattle.line.specs.Check.{check}
 use Rattle.line.specs.Frame.{Frame, Fits, byteBits, covered, carried}
-use Rattle.line.proofs.Laws.{bits-length, bits-split, bits-mod, number-bits, check-below, byteBits-append, covered-length, header-bits}
+use Rattle.line.proofs.Laws.{bits-length, bits-split, bits-mod, number-bits, check-below, byteBits-append, covered-length, carried-length, header-bits}
+use Rattle.rules.specs.Definitions.Mailbox.{codedBytes}
 use Rattle.rules.specs.Definitions.Reception.{dataCount}
 use Rattle.rules.specs.Definitions.Hearing.{checkReceived}
-use Rattle.rules.proofs.Ranges.Bytes.{at-below, take-below, drop-below}
+use Rattle.rules.proofs.Ranges.Bytes.{at-below, take-below, drop-below, zeros-below}
 use Rattle.rules.specs.Statements.Valid.{high, low}
-use Rattle.rules.proofs.Receiving.Rows.{take-half}
+use Rattle.rules.proofs.Sending.Frames.{coded-bits}
+use Rattle.rules.proofs.Receiving.Rows.{take-half, cons-eq, bytes-length, Padded, zeros-bits}
 use Rattle.rules.proofs.Receiving.Invariant.{frameHeld}
 use Rattle.rules.specs.declared.Reception.{Reception}
 
@@ -164,3 +166,57 @@ module _ (f : Frame) (fits : Fits 30 f) where
       let d : bits 15 c ≡ bits 15 (check (covered f)) = sym (drop-at p (bits 15 c) n l) ∙ ap (λ (t : List ℕ). drop n t) (sym e) ∙ drop-at (covered f) (bits 15 (check (covered f))) n m in
       let k : c ≡ check (covered f) = sym (number-bits 15 c h) ∙ ap number d ∙ number-bits 15 (check (covered f)) (check-below (covered f)) in
       (q, k ∙ ap check (sym q))
+
+-- ---- the bytes of a frame
+
+pub bytes-same : (s t : List ℕ) → Below 256 s → Below 256 t → byteBits s ≡ byteBits t → s ≡ t
+unfolding byteBits
+bytes-same [] [] b d e = refl
+bytes-same [] (y ∷ t) b d e = absurd (omega (arith, ap length e, bytes-length (y ∷ t)))
+bytes-same (x ∷ s) [] b d e = absurd (omega (arith, ap length e, bytes-length (x ∷ s)))
+bytes-same (x ∷ s) (y ∷ t) (one h b) (one g d) e =
+    let k = bits-same 8 x y (byteBits s) (byteBits t) h g e in
+    cons-eq (k .0) (bytes-same s t b d (k .1))
+
+append-below : {s t : List ℕ} → Below 256 s → Below 256 t → Below 256 (s ++ t)
+append-below none d = d
+append-below (one h b) d = one h (append-below b d)
+
+module _ (f : Frame) (fits : Fits 30 f) where
+  pub coded-below : Below 256 (codedBytes f)
+  unfolding codedBytes
+  coded-below =
+      let i = fits .identifier in
+      let c = fits .command in
+      let k = check-below (covered f) in
+      one {x = f .identifier / 16} (omega arith) (one {x = f .identifier % 16 * 16 + f .command} (omega arith)
+      (append-below (fits .bytes) (one {x = check (covered f) / 128} (omega arith) (one {x = check (covered f) % 128 * 2} (omega arith) (zeros-below (30 - length (f .bytes)))))))
+
+  pub coded-length : length (codedBytes f) ≡ 34
+  unfolding codedBytes
+  coded-length =
+      let l = fits .size in
+      rw (length-append (f .bytes), length-replicate) (omega arith)
+
+  -- bytes whose bits are those that carry the frame, with zeros behind them
+  pub coded-same : (bytes : List ℕ) → Below 256 bytes → length bytes ≡ 34 → Padded (carried f ++ (0 ∷ [])) (byteBits bytes) → bytes ≡ codedBytes f
+  coded-same bytes b l p =
+      let n : ℕ = length (f .bytes) in
+      let m = fits .size in
+      let cl = carried-length f in
+      let bl = bytes-length bytes in
+      let long : length (byteBits bytes) ≡ 32 + 8 * n + p .0 = ap length (p .1) ∙ rw (length-append (carried f ++ (0 ∷ [])), length-append (carried f), length-replicate) (omega arith) in
+      let z : p .0 ≡ 8 * (30 - n) = omega arith in
+      let e : byteBits (codedBytes f) ≡ carried f ++ (0 ∷ replicate (8 * (30 - n)) 0) = coded-bits f fits ∙ ap (λ (t : List ℕ). carried f ++ (0 ∷ t)) (zeros-bits (30 - n)) in
+      bytes-same bytes (codedBytes f) b coded-below (p .1 ∙ rw z (append-assoc (carried f) (0 ∷ []) (replicate (8 * (30 - n)) 0)) ∙ sym e)
+
+  -- and the frame that they hold is that frame
+  pub held-same : (r : Reception) → r .bytes ≡ codedBytes f → dataCount (r .nibbles) ≡ length (f .bytes) → frameHeld r (f .acknowledge) ≡ f
+  unfolding frameHeld codedBytes
+  held-same r e d =
+      let c = fits .command in
+      let n : ℕ = length (f .bytes) in
+      let behind : List ℕ = (check (covered f) / 128) ∷ (check (covered f) % 128 * 2) ∷ replicate (30 - n) 0 in
+      let i : f .identifier / 16 * 16 + (f .identifier % 16 * 16 + f .command) / 16 ≡ f .identifier = omega arith in
+      let k : (f .identifier % 16 * 16 + f .command) % 16 ≡ f .command = omega arith in
+      rw (e, d, i, k, take-at (f .bytes) behind n refl)

@@ -9,9 +9,11 @@ use lib.ListN.{length, getD, take, drop, replicate}
 use Rattle.line.specs.Bits.{bits, Below}
 use Rattle.line.specs.LineCode.{lineCode}
 use Rattle.line.specs.Frame.{Frame, Fits, byteBits, carried, start, endOfData, acknowledgeSlots, slots}
+use Rattle.rules.specs.Definitions.Mailbox.{codedBytes}
 use Rattle.rules.specs.Definitions.Reception.{dataCount}
 use Rattle.rules.specs.Definitions.Hearing.{replyRequest}
 use Rattle.rules.specs.Statements.Valid.{Valid, high, low, owes}
+use Rattle.rules.proofs.Receiving.Rows.{Padded}
 use Rattle.rules.specs.declared.Phase.{Phase}
 use Rattle.rules.specs.declared.Phase.the-variants.{Quiet, Start, Body, Acknowledge, End}
 use Rattle.rules.specs.declared.Reception.{Reception}
@@ -33,12 +35,13 @@ pub record InStart (r : Reception) (s : List ℕ) : Type 0 where
   pub bytes : r .bytes ≡ replicate 34 0
   pub samples : s ≡ take (r .place .at) start
 
--- whole nibbles, then the bits of the one under way
+-- whole nibbles, zeros behind them in the bytes, then the bits of the nibble under way
 pub record InBody (r : Reception) (s : List ℕ) : Type 0 where
   pub within : r .place .at ≤ 4
   pub nibbles : r .nibbles ≤ 67
   pub long : length (r .bytes) ≡ 34
   pub below : Below 256 (r .bytes)
+  pub padded : Padded (take (4 * r .nibbles) (byteBits (r .bytes))) (byteBits (r .bytes))
   pub samples : s ≡ start ++ (lineCode (take (4 * r .nibbles) (byteBits (r .bytes))) ++ bits (r .place .at) (r .bits))
 
 -- a frame of n data bytes has been taken up to its end of data
@@ -47,6 +50,8 @@ pub record Carried (r : Reception) : Type 0 where
   pub long : length (r .bytes) ≡ 34
   pub below : Below 256 (r .bytes)
   pub count : dataCount (r .nibbles) ≤ 30
+  -- the bytes are those of the frame, check and zeros included
+  pub coded : r .bytes ≡ codedBytes (frameHeld r true)
   pub request : replyRequest (getD (r .bytes) 1 0) ≡ true → dataCount (r .nibbles) ≡ 0
 
 pub record InAcknowledge (r : Reception) (s : List ℕ) : Type 0 where
@@ -82,6 +87,7 @@ pub record Whole (r : Reception) (s : List ℕ) : Type 0 where
   pub low-is : getD (r .bytes) 1 0 ≡ low frame
   pub bytes-are : take (dataCount (r .nibbles)) (drop 2 (r .bytes)) ≡ frame .bytes
   pub count-is : dataCount (r .nibbles) ≡ length (frame .bytes)
+  pub coded-is : r .bytes ≡ codedBytes frame
 
 -- a valid frame with its acknowledge, of which the samples are all before the acknowledge and its first slot, whatever that was sampled as
 pub record Owed (r : Reception) (s : List ℕ) : Type 0 where

@@ -17,7 +17,8 @@ use Rattle.line.specs.Layout.{inFive}
 use Rattle.line.proofs.Laws.{bits-length, slots-length}
 use Rattle.rules.specs.Definitions.Registers.{both, FV, CV, FCSE}
 use Rattle.rules.specs.Definitions.Channels.{acknowledgeAsked}
-use Rattle.rules.specs.Definitions.Reception.{begun, quiet, withPlace, atPlace, underWay, isUnderWay, isBody, inBody, behind, commandEnded, moved, entered, bitTaken, withNibble, nibbleTaken, followStart, followBody, followAcknowledge, followEnd, followIn, followed, named, dataCount}
+use Rattle.rules.specs.Definitions.Mailbox.{codedBytes}
+use Rattle.rules.specs.Definitions.Reception.{begun, quiet, atPlace, underWay, isUnderWay, isBody, inBody, behind, commandEnded, moved, entered, bitTaken, withNibble, bitsLaid, dataEnded, nibbleTaken, followStart, followBody, followAcknowledge, followEnd, followIn, followed, winnerTaken, dataCount}
 use Rattle.rules.specs.Definitions.Hearing.{mostNibbles, whole, replyRequest, checkReceived, checkDue, hearEndOfData, hearSecondHalf, hearBody, hearStart, fits, acknowledges, acknowledgeWrong, hearAcknowledge, hearEnd, hearIn, hearFrame, acknowledgeLevel, receiverIn, receiverLevel}
 use Rattle.rules.specs.Statements.Valid.{Valid, high, low}
 use Rattle.rules.proofs.Sending.Follow.{left}
@@ -33,7 +34,7 @@ use Rattle.rules.specs.declared.Hearing.{Hearing}
 use Rattle.rules.specs.declared.Hearing.the-variants.{Silent, Follows, Fault, Good}
 
 pub invariant-begun : Invariant begun (0 ∷ [])
-unfolding Invariant InvariantIn begun quiet withPlace atPlace start
+unfolding Invariant InvariantIn begun quiet atPlace start
 invariant-begun = record { some = omega arith; within = omega arith; nibbles = refl; bytes = refl; samples = refl }
 
 -- ---- what a judgement is not
@@ -113,12 +114,12 @@ module _ (r : Reception) (s : List ℕ) where
   under-way-in End t = refl
 
   winner-in : (p : Phase) → InvariantIn p r s → (v : ℕ) → followIn p r v .winner ≡ r .winner
-  unfolding InvariantIn followIn followStart followBody followAcknowledge followEnd moved entered bitTaken nibbleTaken withPlace
+  unfolding InvariantIn followIn followStart followBody followAcknowledge followEnd moved entered bitTaken nibbleTaken dataEnded bitsLaid
   winner-in Quiet t v = absurd t
   winner-in Start t v = left (λ (x : Reception). x .winner) (ltb (r .place .at) 9) (moved r) (entered r Body) (r .winner) refl refl
   winner-in Body t v =
       left (λ (x : Reception). x .winner) (ltb (r .place .at) 4) (bitTaken r v) _ (r .winner) refl
-      (left (λ (x : Reception). x .winner) (eqb v (r .bits % 2)) (entered r Acknowledge) (nibbleTaken r) (r .winner) refl refl)
+      (left (λ (x : Reception). x .winner) (eqb v (r .bits % 2)) (dataEnded r) (nibbleTaken r) (r .winner) refl refl)
   winner-in Acknowledge t v = left (λ (x : Reception). x .winner) (eqb (r .place .at) 0) (bitTaken r v) (entered r End) (r .winner) refl refl
   winner-in End t v = left (λ (x : Reception). x .winner) (ltb (r .place .at) 7) (moved r) r (r .winner) refl refl
 
@@ -150,12 +151,12 @@ module _ (r : Reception) (s : List ℕ) where
   command-in End t =
       no-command (eqb (r .place .at) 0) (eqb (r .nibbles) 4) ∙ sym (ne-eqb (length s) 30 (λ e. omega (arith, end-long r s t)))
 
-  named-in : (p : Phase) → r .place .phase ≡ p → InvariantIn p r s → isBody p ≡ true → (m : List ℕ) → Invariant (named r m) s
+  named-in : (p : Phase) → r .place .phase ≡ p → InvariantIn p r s → isBody p ≡ true → (m : List ℕ) → Invariant (winnerTaken r m) s
   unfolding isBody
   named-in Quiet e t b m = absurd (false≢true b)
   named-in Start e t b m = absurd (false≢true b)
   named-in Body e t b m =
-      unfold Invariant InvariantIn named in rw e (record { within = t .within; nibbles = t .nibbles; long = t .long; below = t .below; samples = t .samples })
+      unfold Invariant InvariantIn winnerTaken in rw e (record { within = t .within; nibbles = t .nibbles; long = t .long; below = t .below; padded = t .padded; samples = t .samples })
   named-in Acknowledge e t b m = absurd (false≢true b)
   named-in End e t b m = absurd (false≢true b)
 
@@ -167,14 +168,14 @@ module _ (r : Reception) (s : List ℕ) where
       (getD-set-other (r .bytes) i k (x % 16 * 16) 0 (λ e. omega arith)) (getD-set-other (r .bytes) i k (getD (r .bytes) i 0 / 16 * 16 + x % 16) 0 (λ e. omega arith))
 
   kept-in : (p : Phase) → InvariantIn p r s → 30 ≤ length s → (v k : ℕ) → k < 2 → getD (followIn p r v .bytes) k 0 ≡ getD (r .bytes) k 0
-  unfolding InvariantIn followIn followStart followBody followAcknowledge followEnd moved entered bitTaken nibbleTaken withPlace
+  unfolding InvariantIn followIn followStart followBody followAcknowledge followEnd moved entered bitTaken nibbleTaken dataEnded bitsLaid
   kept-in Quiet t h v k l = absurd t
   kept-in Start t h v k l = left (λ (x : Reception). getD (x .bytes) k 0) (ltb (r .place .at) 9) (moved r) (entered r Body) (getD (r .bytes) k 0) refl refl
   kept-in Body t h v k l =
       let n = body-long r s t in
       let w = t .within in
       left (λ (x : Reception). getD (x .bytes) k 0) (ltb (r .place .at) 4) (bitTaken r v) _ (getD (r .bytes) k 0) refl
-      (left (λ (x : Reception). getD (x .bytes) k 0) (eqb v (r .bits % 2)) (entered r Acknowledge) (nibbleTaken r) (getD (r .bytes) k 0) refl (kept k l (omega arith) (t .nibbles) (r .bits)))
+      (left (λ (x : Reception). getD (x .bytes) k 0) (eqb v (r .bits % 2)) (dataEnded r) (nibbleTaken r) (getD (r .bytes) k 0) (kept k l (omega arith) (t .nibbles) (r .bits)) (kept k l (omega arith) (t .nibbles) (r .bits)))
   kept-in Acknowledge t h v k l = left (λ (x : Reception). getD (x .bytes) k 0) (eqb (r .place .at) 0) (bitTaken r v) (entered r End) (getD (r .bytes) k 0) refl refl
   kept-in End t h v k l = left (λ (x : Reception). getD (x .bytes) k 0) (ltb (r .place .at) 7) (moved r) r (getD (r .bytes) k 0) refl refl
 
@@ -207,6 +208,7 @@ module _ (r : Reception) (s : List ℕ) where
         low-is = held-low r (c .long) (c .below) (c .count) (t .acknowledged);
         bytes-are = unfold frameHeld in refl;
         count-is = held-length r (c .long) (c .below) (c .count) (t .acknowledged);
+        coded-is = unfold frameHeld codedBytes covered in c .coded;
       }
 
   good-in : (p : Phase) → InvariantIn p r s → (v : ℕ) → v < 2 → hearIn p r 30 v ≡ Good → Whole r (s ++ (v ∷ []))
@@ -355,11 +357,11 @@ module _ (r : Reception) (s : List ℕ) (t : Invariant r s) where
   unfolding commandEnded behind inBody
   invariant-command = command-in r s (r .place .phase) invariant-in
 
-  pub invariant-named : commandEnded r ≡ true → (m : List ℕ) → Invariant (named r m) s
+  pub invariant-named : commandEnded r ≡ true → (m : List ℕ) → Invariant (winnerTaken r m) s
   unfolding commandEnded behind inBody
   invariant-named e m = go (eqb (r .place .at) 0) (eqb (r .nibbles) 4) e
     where
-      go : (a b : Bool) → pick a (pick b (isBody (r .place .phase)) false) false ≡ true → Invariant (named r m) s
+      go : (a b : Bool) → pick a (pick b (isBody (r .place .phase)) false) false ≡ true → Invariant (winnerTaken r m) s
       go true true d = named-in r s (r .place .phase) refl invariant-in d m
       go true false d = absurd (false≢true d)
       go false b d = absurd (false≢true d)

@@ -2,12 +2,12 @@
 use Prim.Native.Nat.{ℕ, _+_, _-_, _*_, _/_, _%_, _≤_, _<_}
 use mathlib.Core.Bool.{Bool, true, false, not, false≢true}
 use mathlib.Core.List.{List, [], _∷_, _++_, append-assoc, append-nil}
-use mathlib.Core.Path.{_≡_, refl, ap, _∙_, sym}
+use mathlib.Core.Path.{_≡_, refl, ap, _∙_, sym, subst}
 use native.Mathlib.Omega.{arith}
 use native.Mathlib.Numerals.{add-one}
 use borrow.Author.Tests.{lt-ltb, eqb-true, eqb-false, ltb-true, ltb-false, leb-true, not-false}
 use lib.Dec.{eqb, ltb, leb}
-use lib.ListN.{length, getD, set, take, replicate, length-set, replicate-append-replicate}
+use lib.ListN.{length, getD, take, replicate, replicate-append-replicate}
 use lib.Seq.{take-suc}
 use Rattle.line.specs.Bits.{pick, bits, Below}
 use Rattle.line.specs.LineCode.{lineCode}
@@ -15,13 +15,14 @@ use Rattle.line.specs.Frame.{byteBits, carried, start, endOfData, acknowledgeSl
 use Rattle.line.proofs.Laws.{bits-split, code-append, picked}
 use Rattle.rules.specs.Definitions.Registers.{both, FV, CV, FCSE}
 use Rattle.rules.specs.Definitions.Channels.{acknowledgeAsked}
-use Rattle.rules.specs.Definitions.Reception.{withPlace, atPlace, moved, entered, bitTaken, withNibble, moreNibbles, nibbleTaken, followStart, followBody, followAcknowledge, followEnd, followIn, followed, dataCount}
+use Rattle.rules.specs.Definitions.Mailbox.{codedBytes}
+use Rattle.rules.specs.Definitions.Reception.{atPlace, moved, entered, bitTaken, withNibble, moreNibbles, bitsLaid, dataEnded, nibbleTaken, followStart, followBody, followAcknowledge, followEnd, followIn, followed, dataCount}
 use Rattle.rules.specs.Definitions.Hearing.{mostNibbles, whole, replyRequest, checkReceived, checkDue, hearEndOfData, hearSecondHalf, hearBody, hearStart, fits, acknowledges, acknowledgeWrong, hearAcknowledge, hearEnd, hearIn, hearFrame}
-use Rattle.rules.proofs.Ranges.Bytes.{set-below, zeros-below, at-below}
+use Rattle.rules.proofs.Ranges.Bytes.{zeros-below}
 use Rattle.rules.specs.Statements.Valid.{low, owes}
 use Rattle.rules.proofs.Receiving.Invariant.{frameHeld, InStart, InBody, Carried, InAcknowledge, InEnd, InvariantIn, Invariant}
-use Rattle.rules.proofs.Receiving.Rows.{nibbles-length, nibble-added, nibble-slots, bit-added}
-use Rattle.rules.proofs.Receiving.Held.{row-held, held-covered, held-fits, held-low, held-length}
+use Rattle.rules.proofs.Receiving.Rows.{nibbles-length, nibble-added, Padded, zeros-bits, nibble-padded, nibble-long, nibble-below, nibble-slots, bit-added}
+use Rattle.rules.proofs.Receiving.Held.{row-held, held-covered, held-fits, held-low, held-length, coded-same, held-same}
 use Rattle.rules.specs.declared.Phase.{Phase}
 use Rattle.rules.specs.declared.Phase.the-variants.{Quiet, Start, Body, Acknowledge, End}
 use Rattle.rules.specs.declared.Reception.{Reception}
@@ -65,19 +66,6 @@ whole-count j e = go (ltb j 7) refl (eqb (j % 2) 0) refl e
         let m = leb-true j 67 e in
         (omega arith, omega arith)
 
-nibble-long : (bytes : List ℕ) (j x : ℕ) → length bytes ≡ 34 → length (withNibble bytes j x) ≡ 34
-unfolding withNibble
-nibble-long bytes j x l =
-    picked (λ (t : List ℕ). length t ≡ 34) (eqb (j % 2) 0) (set bytes (j / 2 % 34) (x % 16 * 16)) (set bytes (j / 2 % 34) (getD bytes (j / 2 % 34) 0 / 16 * 16 + x % 16))
-    (λ e. length-set bytes (j / 2 % 34) (x % 16 * 16) ∙ l) (λ e. length-set bytes (j / 2 % 34) (getD bytes (j / 2 % 34) 0 / 16 * 16 + x % 16) ∙ l)
-
-nibble-below : (bytes : List ℕ) (j x : ℕ) → Below 256 bytes → Below 256 (withNibble bytes j x)
-unfolding withNibble
-nibble-below bytes j x b =
-    let h = at-below b (j / 2 % 34) in
-    picked (Below 256) (eqb (j % 2) 0) (set bytes (j / 2 % 34) (x % 16 * 16)) (set bytes (j / 2 % 34) (getD bytes (j / 2 % 34) 0 / 16 * 16 + x % 16))
-    (λ e. set-below b (j / 2 % 34) (x % 16 * 16) (omega arith)) (λ e. set-below b (j / 2 % 34) (getD bytes (j / 2 % 34) 0 / 16 * 16 + x % 16) (omega arith))
-
 -- ---- the start
 
 module _ (r : Reception) (s : List ℕ) (v : ℕ) (small : v < 2) where
@@ -95,24 +83,25 @@ module _ (r : Reception) (s : List ℕ) (v : ℕ) (small : v < 2) where
 
       on : r .place .at < 9 → Invariant (moved r) (s ++ (v ∷ []))
       on l =
-          unfold Invariant InvariantIn moved withPlace atPlace in
+          unfold Invariant InvariantIn moved atPlace in
           rw p (record { some = omega arith; within = omega arith; nibbles = t .nibbles; bytes = t .bytes; samples = next })
 
       over : r .place .at ≡ 9 → Invariant (entered r Body) (s ++ (v ∷ []))
       over l =
-          unfold Invariant InvariantIn entered withPlace atPlace in
+          unfold Invariant InvariantIn entered atPlace in
           record {
             within = omega arith;
             nibbles = omega (arith, t .nibbles);
             long = rw (t .bytes) refl;
             below = rw (t .bytes) (zeros-below 34);
+            padded = rw (t .bytes, t .nibbles) (272, zeros-bits 34);
             samples = next ∙ rw (l, t .nibbles) (unfold start lineCode bits in refl);
           }
 
   -- ---- a plain bit or a first half
 
   bit-step : r .place .phase ≡ Body → InBody r s → r .place .at < 4 → Invariant (bitTaken r v) (s ++ (v ∷ []))
-  unfolding Invariant InvariantIn bitTaken withPlace atPlace
+  unfolding Invariant InvariantIn bitTaken moved atPlace
   bit-step p t l =
       let code : List ℕ = lineCode (take (4 * r .nibbles) (byteBits (r .bytes))) in
       let old : List ℕ = bits (r .place .at) (r .bits) in
@@ -122,6 +111,7 @@ module _ (r : Reception) (s : List ℕ) (v : ℕ) (small : v < 2) where
         nibbles = t .nibbles;
         long = t .long;
         below = t .below;
+        padded = t .padded;
         samples = rw (t .samples, bit-added (r .place .at) (r .bits) v (omega arith) small)
             (append-assoc start (code ++ old) (v ∷ []) ∙ ap (λ (x : List ℕ). start ++ x) (append-assoc code old (v ∷ [])));
       })
@@ -129,7 +119,7 @@ module _ (r : Reception) (s : List ℕ) (v : ℕ) (small : v < 2) where
   -- ---- a second half unlike the first
 
   nibble-step : InBody r s → r .place .at ≡ 4 → (v ≡ r .bits % 2 → ⊥) → r .nibbles < 67 → Invariant (nibbleTaken r) (s ++ (v ∷ []))
-  unfolding Invariant InvariantIn nibbleTaken moreNibbles atPlace
+  unfolding Invariant InvariantIn nibbleTaken bitsLaid entered moreNibbles atPlace
   nibble-step t l d n =
       let before : List ℕ = take (4 * r .nibbles) (byteBits (r .bytes)) in
       let four : length before % 4 ≡ 0 = rw (nibbles-length (r .bytes) (r .nibbles) (t .long) (t .nibbles)) (omega arith) in
@@ -139,7 +129,8 @@ module _ (r : Reception) (s : List ℕ) (v : ℕ) (small : v < 2) where
         within = omega arith;
         nibbles = omega arith;
         long = nibble-long (r .bytes) (r .nibbles) (r .bits) (t .long);
-        below = nibble-below (r .bytes) (r .nibbles) (r .bits) (t .below);
+        below = nibble-below (t .below) (r .nibbles) (r .bits);
+        padded = rw (nibble-added (r .bytes) (r .nibbles) (r .bits) (t .long) (omega arith)) (nibble-padded (r .bytes) (r .nibbles) (r .bits) (t .long) (omega arith) (t .padded));
         samples = rw (t .samples, l, nibble-added (r .bytes) (r .nibbles) (r .bits) (t .long) (omega arith), code) (unfold bits in simp (append-assoc, append-nil));
       })
 
@@ -154,21 +145,43 @@ module _ (r : Reception) (s : List ℕ) (v : ℕ) (small : v < 2) where
       rw (held-covered r (t .long) (t .below) n true, ← c)
       (sym (row-held (r .bytes) (dataCount (r .nibbles)) (t .long) (t .below) n (4 * r .nibbles) (r .bits / 2) (omega arith)))
 
+  -- and the bytes with them are that frame's
+  ended-coded : InBody r s → r .bits % 2 ≡ 0 → dataCount (r .nibbles) ≤ 30 → r .nibbles ≡ 7 + 2 * dataCount (r .nibbles)
+      → checkReceived (r .bytes) (dataCount (r .nibbles)) (r .bits / 2) ≡ checkDue (r .bytes) (dataCount (r .nibbles))
+      → withNibble (r .bytes) (r .nibbles) (r .bits) ≡ codedBytes (frameHeld r true)
+  ended-coded t z n j c =
+      let f = held-fits r (t .long) (t .below) n true in
+      let last : bits 1 (r .bits) ≡ 0 ∷ [] = unfold bits in (let e : r .bits / 1 % 2 ≡ 0 = omega arith in rw e) in
+      let row : take (4 * r .nibbles) (byteBits (r .bytes)) ++ bits 4 (r .bits) ≡ carried (frameHeld r true) ++ (0 ∷ []) = rw (carried-held t n j c, bits-split 3 1 (r .bits), last) (simp append-assoc) in
+      coded-same (frameHeld r true) f (withNibble (r .bytes) (r .nibbles) (r .bits)) (nibble-below (t .below) (r .nibbles) (r .bits)) (nibble-long (r .bytes) (r .nibbles) (r .bits) (t .long))
+      (subst (λ (b : List ℕ). Padded b (byteBits (withNibble (r .bytes) (r .nibbles) (r .bits)))) row (nibble-padded (r .bytes) (r .nibbles) (r .bits) (t .long) (t .nibbles) (t .padded)))
+
   end-step : InBody r s → r .place .at ≡ 4 → v ≡ r .bits % 2 → v ≡ 0 → dataCount (r .nibbles) ≤ 30 → r .nibbles ≡ 7 + 2 * dataCount (r .nibbles)
       → (replyRequest (getD (r .bytes) 1 0) ≡ true → dataCount (r .nibbles) ≡ 0)
       → checkReceived (r .bytes) (dataCount (r .nibbles)) (r .bits / 2) ≡ checkDue (r .bytes) (dataCount (r .nibbles))
-      → Invariant (entered r Acknowledge) (s ++ (v ∷ []))
-  unfolding Invariant InvariantIn entered withPlace atPlace frameHeld
+      → Invariant (dataEnded r) (s ++ (v ∷ []))
+  unfolding Invariant InvariantIn dataEnded bitsLaid entered atPlace frameHeld
   end-step t l d z n j q c =
       let before : List ℕ = take (4 * r .nibbles) (byteBits (r .bytes)) in
       let four : length before % 4 ≡ 0 = rw (nibbles-length (r .bytes) (r .nibbles) (t .long) (t .nibbles)) (omega arith) in
       let three : lineCode (bits 3 (r .bits / 2)) ≡ bits 3 (r .bits / 2) = unfold lineCode bits in refl in
       let code : lineCode (carried (frameHeld r true)) ≡ lineCode before ++ bits 3 (r .bits / 2) = ap lineCode (carried-held t n j c) ∙ code-append before (bits 3 (r .bits / 2)) four ∙ ap (λ (x : List ℕ). lineCode before ++ x) three in
       let last : bits 1 (r .bits) ≡ 0 ∷ [] = unfold bits in (let e : r .bits / 1 % 2 ≡ 0 = omega arith in rw e) in
+      let coded = ended-coded t (omega arith) n j c in
+      let f = held-fits r (t .long) (t .below) n true in
+      let same : frameHeld (dataEnded r) true ≡ frameHeld r true = held-same (frameHeld r true) f (dataEnded r) (unfold dataEnded bitsLaid entered in coded) (unfold dataEnded bitsLaid entered in held-length r (t .long) (t .below) n true) in
+      let second : getD (withNibble (r .bytes) (r .nibbles) (r .bits)) 1 0 ≡ getD (r .bytes) 1 0 = ap (λ (x : List ℕ). getD x 1 0) coded ∙ unfold codedBytes low in sym (held-low r (t .long) (t .below) n true) in
       record {
         within = omega arith;
-        held = record { fits = held-fits r (t .long) (t .below) n true; long = t .long; below = t .below; count = n; request = q };
-        samples = rw (t .samples, l, code, bits-split 3 1 (r .bits), last, z) (unfold bits endOfData in simp append-assoc);
+        held = record {
+          fits = rw same f;
+          long = nibble-long (r .bytes) (r .nibbles) (r .bits) (t .long);
+          below = nibble-below (t .below) (r .nibbles) (r .bits);
+          count = n;
+          coded = rw same coded;
+          request = rw second q;
+        };
+        samples = rw (same, t .samples, l, code, bits-split 3 1 (r .bits), last, z) (unfold bits endOfData in simp append-assoc);
       }
 
   body-step : r .place .phase ≡ Body → InBody r s → hearBody r 30 v ≡ Follows → Invariant (followBody r v) (s ++ (v ∷ []))
@@ -189,7 +202,7 @@ module _ (r : Reception) (s : List ℕ) (v : ℕ) (small : v < 2) where
       no-data true false l e d = let h = ltb-false 0 n l in omega arith
       no-data false b l e d = absurd (false≢true d)
 
-      ended : r .place .at ≡ 4 → v ≡ r .bits % 2 → v ≡ 0 → pick (whole (r .nibbles) 30) (pick (both request (ltb 0 n)) (Fault CV) (pick right Follows (Fault FCSE))) (Fault CV) ≡ Follows → Invariant (entered r Acknowledge) (s ++ (v ∷ []))
+      ended : r .place .at ≡ 4 → v ≡ r .bits % 2 → v ≡ 0 → pick (whole (r .nibbles) 30) (pick (both request (ltb 0 n)) (Fault CV) (pick right Follows (Fault FCSE))) (Fault CV) ≡ Follows → Invariant (dataEnded r) (s ++ (v ∷ []))
       ended l d z h =
           let w = passes (whole (r .nibbles) 30) (pick (both request (ltb 0 n)) (Fault CV) (pick right Follows (Fault FCSE))) CV h in
           let q = spared (both request (ltb 0 n)) (pick right Follows (Fault FCSE)) CV (w .1) in
@@ -199,7 +212,7 @@ module _ (r : Reception) (s : List ℕ) (v : ℕ) (small : v < 2) where
 
       second : r .place .at ≡ 4 → (b : Bool) → eqb v (r .bits % 2) ≡ b
           → pick b (pick (eqb v 0) (pick (whole (r .nibbles) 30) (pick (both request (ltb 0 n)) (Fault CV) (pick right Follows (Fault FCSE))) (Fault CV)) (Fault CV)) (pick (ltb (r .nibbles) 67) Follows (Fault CV)) ≡ Follows
-          → Invariant (pick b (entered r Acknowledge) (nibbleTaken r)) (s ++ (v ∷ []))
+          → Invariant (pick b (dataEnded r) (nibbleTaken r)) (s ++ (v ∷ []))
       second l true e h =
           let z = passes (eqb v 0) (pick (whole (r .nibbles) 30) (pick (both request (ltb 0 n)) (Fault CV) (pick right Follows (Fault FCSE))) (Fault CV)) CV h in
           ended l (eqb-true v (r .bits % 2) e) (eqb-true v 0 (z .0)) (z .1)
@@ -209,21 +222,21 @@ module _ (r : Reception) (s : List ℕ) (v : ℕ) (small : v < 2) where
 
       plain : (b : Bool) → ltb (r .place .at) 4 ≡ b
           → pick b Follows (pick (eqb v (r .bits % 2)) (pick (eqb v 0) (pick (whole (r .nibbles) 30) (pick (both request (ltb 0 n)) (Fault CV) (pick right Follows (Fault FCSE))) (Fault CV)) (Fault CV)) (pick (ltb (r .nibbles) 67) Follows (Fault CV))) ≡ Follows
-          → Invariant (pick b (bitTaken r v) (pick (eqb v (r .bits % 2)) (entered r Acknowledge) (nibbleTaken r))) (s ++ (v ∷ []))
+          → Invariant (pick b (bitTaken r v) (pick (eqb v (r .bits % 2)) (dataEnded r) (nibbleTaken r))) (s ++ (v ∷ []))
       plain true e h = bit-step p t (ltb-true (r .place .at) 4 e)
       plain false e h = let l = ltb-false (r .place .at) 4 e in second (omega (arith, t .within)) (eqb v (r .bits % 2)) refl h
 
   -- ---- the acknowledge
 
   first-step : r .place .phase ≡ Acknowledge → InAcknowledge r s → r .place .at ≡ 0 → Invariant (bitTaken r v) (s ++ (v ∷ []))
-  unfolding Invariant InvariantIn bitTaken withPlace atPlace frameHeld
+  unfolding Invariant InvariantIn bitTaken moved atPlace frameHeld
   first-step p t l =
       let code : List ℕ = lineCode (carried (frameHeld r true)) in
       let old : List ℕ = bits (r .place .at) (r .bits) in
       rw p
       (record {
         within = omega arith;
-        held = record { fits = t .held .fits; long = t .held .long; below = t .held .below; count = t .held .count; request = t .held .request };
+        held = record { fits = t .held .fits; long = t .held .long; below = t .held .below; count = t .held .count; coded = t .held .coded; request = t .held .request };
         samples = rw (t .samples, bit-added (r .place .at) (r .bits) v (omega arith) small) (simp append-assoc);
       })
 
@@ -247,12 +260,12 @@ slots-are x v false o e = let d : x / 1 % 2 ≡ 1 = omega arith in rw (d, e)
 module _ (r : Reception) (s : List ℕ) (v : ℕ) (small : v < 2) where
   second-step : InAcknowledge r s → r .place .at ≡ 1 → (a : Bool) → (bits 1 (r .bits) ++ (v ∷ []) ≡ acknowledgeSlots a)
       → (a ≡ true → acknowledgeAsked (getD (r .bytes) 1 0) ≡ true) → (acknowledges r ≡ true → a ≡ true) → Invariant (entered r End) (s ++ (v ∷ []))
-  unfolding Invariant InvariantIn entered withPlace atPlace frameHeld
+  unfolding Invariant InvariantIn entered atPlace frameHeld
   second-step t l a e asked drove =
       let c = t .held in
       record {
         within = omega arith;
-        held = record { fits = c .fits; long = c .long; below = c .below; count = c .count; request = c .request };
+        held = record { fits = c .fits; long = c .long; below = c .below; count = c .count; coded = c .coded; request = c .request };
         acknowledged = a;
         valid = record {
           request = held-request r c a;
@@ -301,12 +314,12 @@ module _ (r : Reception) (s : List ℕ) (v : ℕ) (small : v < 2) where
     where
       on : v ≡ 1 → r .place .at < 7 → Invariant (moved r) (s ++ (v ∷ []))
       on o l =
-          unfold Invariant InvariantIn moved withPlace atPlace frameHeld in
+          unfold Invariant InvariantIn moved atPlace frameHeld in
           (let c = t .held in
           rw p
           (record {
             within = omega arith;
-            held = record { fits = c .fits; long = c .long; below = c .below; count = c .count; request = c .request };
+            held = record { fits = c .fits; long = c .long; below = c .below; count = c .count; coded = c .coded; request = c .request };
             acknowledged = t .acknowledged;
             valid = t .valid;
             samples = rw (t .samples, o, ← (ones-added (r .place .at) 1)) (simp append-assoc);

@@ -12,7 +12,7 @@ use Rattle.line.specs.Bits.{pick}
 use Rattle.line.specs.Frame.{start}
 use Rattle.line.proofs.Laws.{picked}
 use Rattle.rules.specs.Definitions.Channels.{extension, reads, remote, chrx, chtx, channelAt, listensForData, listensForRequests, listens, takes, lowest, lowestListening, won, winnerFor, nobody}
-use Rattle.rules.specs.Definitions.Reception.{atPlace, quiet, isUnderWay, takesStart, underWay, behind, commandEnded, begun, withPlace, followIn, followed, named}
+use Rattle.rules.specs.Definitions.Reception.{atPlace, quiet, isUnderWay, takesStart, underWay, behind, commandEnded, begun, followIn, followed, winnerTaken}
 use Rattle.rules.specs.Definitions.Hearing.{receptionAfter, hearFrame, hearQuiet}
 use Rattle.rules.proofs.Receiving.Invariant.{Invariant}
 use Rattle.rules.proofs.Receiving.InvariantLaws.{invariant-begun, invariant-under-way, invariant-winner, invariant-command, invariant-named, invariant-kept, invariant-step, invariant-silent}
@@ -72,13 +72,13 @@ pub record Following (r : Reception) (l : Log) : Type 0 where
 
 pub begun-following : (m : List ℕ) → Following begun (sampledLog noLog 0 m)
 unfolding sampledLog noLog
-begun-following m = record { invariant = invariant-begun; winner = unfold begun withPlace quiet in (sym (none-wins 0 0)); before = λ h. refl }
+begun-following m = record { invariant = invariant-begun; winner = unfold begun quiet in (sym (none-wins 0 0)); before = λ h. refl }
 
 module _ (r : Reception) (l : Log) (f : Following r l) (v : ℕ) (small : v < 2) (h : hearFrame r 30 v ≡ Follows) (m : List ℕ) where
   invariant-then : Invariant (followed r v) (l .samples ++ (v ∷ []))
   invariant-then = invariant-step r (l .samples) (f .invariant) v small h
 
-  -- the winner stays, and so do identifier and command once it is named
+  -- the winner stays, and so do identifier and command once it is winnerTaken
   winner-kept : followed r v .winner ≡ winnerFor (l .held) (getD (followed r v .bytes) 0 0) (getD (followed r v .bytes) 1 0)
   winner-kept = go (ltb (length (l .samples)) 30) refl
     where
@@ -91,11 +91,11 @@ module _ (r : Reception) (l : Log) (f : Following r l) (v : ℕ) (small : v < 2)
           invariant-winner r (l .samples) (f .invariant) v ∙ f .winner ∙ rw (k .0, k .1)
 
   following-as : (b : Bool) → eqb (length (l .samples ++ (v ∷ []))) 30 ≡ b
-      → Following (pick b (named (followed r v) m) (followed r v)) (record { samples = l .samples ++ (v ∷ []); held = pick b m (l .held) })
+      → Following (pick b (winnerTaken (followed r v) m) (followed r v)) (record { samples = l .samples ++ (v ∷ []); held = pick b m (l .held) })
   following-as true e =
       record {
         invariant = invariant-named (followed r v) (l .samples ++ (v ∷ [])) invariant-then (invariant-command (followed r v) (l .samples ++ (v ∷ [])) invariant-then ∙ e) m;
-        winner = unfold named in refl;
+        winner = unfold winnerTaken in refl;
         before = λ x. absurd (omega (arith, eqb-true));
       }
   following-as false e =
@@ -202,7 +202,7 @@ module _ (s : Service) (r : Reception) (l : Log) (v : ℕ) (m : List ℕ) where
   unfolding receptionJudged receptionAfter followed
   begun-judged u =
       let e : followIn (r .place .phase) r v ≡ begun = rw (underway-quiet (r .place .phase) (unfold underWay in u)) (unfold followIn in refl) in
-      rw e (unfold commandEnded behind begun withPlace quiet atPlace in refl)
+      rw e (unfold commandEnded behind begun quiet atPlace in refl)
 
   -- no frame was under way, and a 0 begins one
   begins-after : underWay (r .place) ≡ false → l ≡ noLog → v ≡ 0 → Following (receptionJudged m Follows r v) (sampledLog l v m)
@@ -210,7 +210,7 @@ module _ (s : Service) (r : Reception) (l : Log) (v : ℕ) (m : List ℕ) where
 
   silent-judged : underWay (r .place) ≡ false → receptionJudged m Silent r v .place ≡ r .place
   unfolding receptionJudged receptionAfter
-  silent-judged u = picked (λ (x : Reception). x .place ≡ r .place) (commandEnded r) (named r m) r (λ e. unfold named in refl) (λ e. refl)
+  silent-judged u = picked (λ (x : Reception). x .place ≡ r .place) (commandEnded r) (winnerTaken r m) r (λ e. unfold winnerTaken in refl) (λ e. refl)
 
   quiet-after : drivesFrame (s .effort .progress) ≡ false → underWay (r .place) ≡ false → l ≡ noLog → (line : Line) → After Unjudged (hearQuiet line v)
   unfolding hearQuiet
@@ -238,7 +238,7 @@ module _ (s : Service) (r : Reception) (l : Log) (v : ℕ) (m : List ℕ) where
   closing-goes h = gone (unfold advance withProgress atStage drivesFrame isDriving betweenAttempts isBetween in closing refl refl h)
 
   placed-begun : (x : Coded) → underWay (r .place) ≡ false → Placed x (0 + 1) (receptionJudged m Follows r v)
-  placed-begun x u = rw (begun-judged u) (unfold begun withPlace quiet atPlace in inStart refl refl (omega arith) refl)
+  placed-begun x u = rw (begun-judged u) (unfold begun quiet atPlace in inStart refl refl (omega arith) refl)
 
   first-due : (x : Coded) → due x 0 ≡ 0
   unfolding start

@@ -17,7 +17,7 @@ use Rattle.line.specs.declared.Half.{Half}
 use Rattle.line.specs.declared.Half.the-variants.{Plain, First, Second}
 use Rattle.line.specs.declared.Part.the-variants as part
 use Rattle.rules.specs.Definitions.Mailbox.{coded}
-use Rattle.rules.specs.Definitions.Reception.{atPlace, commandEnded, withPlace, moved, entered, bitTaken, moreNibbles, nibbleTaken, followStart, followBody, followIn, followed, named}
+use Rattle.rules.specs.Definitions.Reception.{atPlace, commandEnded, moved, entered, bitTaken, moreNibbles, bitsLaid, dataEnded, nibbleTaken, followStart, followBody, followIn, followed, winnerTaken}
 use Rattle.rules.specs.Definitions.Hearing.{receptionAfter, mostNibbles, hearSecondHalf, hearBody, hearStart, hearIn, hearFrame}
 use Rattle.rules.specs.Definitions.Attempt.{sentSlots, levelAt, due, overdriven, violated, recessiveLost, difference, judgeSlot}
 use Rattle.rules.specs.Definitions.Slots.{receptionJudged}
@@ -185,7 +185,7 @@ module _ (x : Coded) (k : ℕ) (r : Reception) (v : ℕ) where
   followed-in p e = ap (λ (q : Phase). followIn q r v) e
 
   placed-start : r .place .phase ≡ Start → r .place .at ≡ k → k ≤ 9 → r .nibbles ≡ 0 → Placed x (k + 1) (followed r v)
-  unfolding followIn followStart moved entered withPlace atPlace
+  unfolding followIn followStart moved entered atPlace
   placed-start p a h z =
       rw (followed-in Start p)
       (picked (Placed x (k + 1)) (ltb (r .place .at) 9) (moved r) (entered r Body)
@@ -194,7 +194,7 @@ module _ (x : Coded) (k : ℕ) (r : Reception) (v : ℕ) where
 
   placed-code : r .place .phase ≡ Body → k ≡ 10 + 5 * r .nibbles + r .place .at → r .place .at ≤ 4 → r .nibbles < 67
       → v < 2 → v ≡ levelAt x k → (r .place .at ≡ 4 → v ≡ r .bits % 2 → ⊥) → Placed x (k + 1) (followed r v)
-  unfolding followIn followBody bitTaken nibbleTaken moreNibbles withPlace atPlace
+  unfolding followIn followBody bitTaken moved nibbleTaken dataEnded bitsLaid entered moreNibbles atPlace
   placed-code p q h n small e d =
       rw (followed-in Body p)
       (picked (Placed x (k + 1)) (ltb (r .place .at) 4) (bitTaken r v) _
@@ -212,12 +212,12 @@ module _ (x : Coded) (k : ℕ) (r : Reception) (v : ℕ) where
 pub own-small : (x : Coded) → Own x → x .n ≤ 30
 own-small x o = let n : x .n ≡ length (o .frame .bytes) = ap (λ (y : Coded). y .n) (o .same) ∙ (unfold coded in refl) in omega (arith, o .fits .size)
 
-placed-named : {x : Coded} {k : ℕ} {r : Reception} (m : List ℕ) → Placed x k r → Placed x k (named r m)
-unfolding named
+placed-named : {x : Coded} {k : ℕ} {r : Reception} (m : List ℕ) → Placed x k r → Placed x k (winnerTaken r m)
+unfolding winnerTaken
 placed-named m (inStart p a h z) = inStart p a h z
 placed-named m (inCode p q h b) = inCode p q h b
 
 pub placed-judged : {x : Coded} {k : ℕ} (m : List ℕ) (r : Reception) (v : ℕ) → Placed x k (followed r v) → Placed x k (receptionJudged m Follows r v)
 unfolding receptionJudged receptionAfter
 placed-judged {x} {k} m r v p =
-    picked (Placed x k) (commandEnded (followed r v)) (named (followed r v) m) (followed r v) (λ e. placed-named m p) (λ e. p)
+    picked (Placed x k) (commandEnded (followed r v)) (winnerTaken (followed r v) m) (followed r v) (λ e. placed-named m p) (λ e. p)

@@ -5,13 +5,29 @@ use mathlib.Core.Path.{_≡_, refl, ap, _∙_, sym}
 use native.Mathlib.Omega.{arith}
 use borrow.Author.Tests.{eqb-true, eqb-false}
 use lib.Dec.{eqb}
-use lib.ListN.{length, getD, set, take, drop, length-append, take-append-drop}
+use lib.ListN.{length, getD, set, take, drop, replicate, length-append, length-set, take-append-drop, replicate-append-replicate}
 use lib.Seq.{take-at, length-take-le, set-split, split-at}
-use Rattle.line.specs.Bits.{bits}
+use Rattle.line.specs.Bits.{bits, Below}
 use Rattle.line.specs.LineCode.{lineCode}
 use Rattle.line.specs.Frame.{byteBits}
 use Rattle.line.proofs.Laws.{bits-length, bits-split, bits-mod, code-length, byteBits-append, picked}
 use Rattle.rules.specs.Definitions.Reception.{withNibble}
+use Rattle.rules.proofs.Ranges.Bytes.{at-below, set-below}
+
+-- ---- rows that begin alike
+
+pub cons-head : {x y : ℕ} {s t : List ℕ} → x ∷ s ≡ y ∷ t → x ≡ y
+cons-head {x} {y} {s} {t} e = ap (λ (l : List ℕ). getD l 0 x) e
+
+pub cons-tail : {x y : ℕ} {s t : List ℕ} → x ∷ s ≡ y ∷ t → s ≡ t
+cons-tail {x} {y} {s} {t} e = ap (λ (l : List ℕ). drop 1 l) e
+
+pub cons-eq : {x y : ℕ} {s t : List ℕ} → x ≡ y → s ≡ t → x ∷ s ≡ y ∷ t
+cons-eq e d = λ i. e i ∷ d i
+
+pub cancel : (p : List ℕ) {s t : List ℕ} → p ++ s ≡ p ++ t → s ≡ t
+cancel [] e = e
+cancel (x ∷ p) e = cancel p (cons-tail e)
 
 -- ---- bytes as bits
 
@@ -53,7 +69,7 @@ take-bytes n s m e h =
 
 -- ---- a nibble more
 
-module _ (bytes : List ℕ) (j x : ℕ) (long : length bytes ≡ 34) (h : j ≤ 66) where
+module _ (bytes : List ℕ) (j x : ℕ) (long : length bytes ≡ 34) (h : j ≤ 67) where
   even-nibble : j % 2 ≡ 0 → take (4 * (j + 1)) (byteBits (set bytes (j / 2 % 34) (x % 16 * 16))) ≡ take (4 * j) (byteBits bytes) ++ bits 4 x
   even-nibble e =
       let i : j / 2 % 34 ≡ j / 2 = omega arith in
@@ -84,6 +100,94 @@ module _ (bytes : List ℕ) (j x : ℕ) (long : length bytes ≡ 34) (h : j ≤ 
       picked (λ (t : List ℕ). take (4 * (j + 1)) (byteBits t) ≡ take (4 * j) (byteBits bytes) ++ bits 4 x) (eqb (j % 2) 0) (set bytes (j / 2 % 34) (x % 16 * 16)) (set bytes (j / 2 % 34) (getD bytes (j / 2 % 34) 0 / 16 * 16 + x % 16))
       (λ e. even-nibble (eqb-true (j % 2) 0 e)) (λ e. let d = eqb-false (j % 2) 0 e in odd-nibble (omega arith))
 
+-- ---- zeros behind
+
+-- s is b with zeros behind it
+abbrev pub Padded : List ℕ → List ℕ → Type 0
+Padded b s = (zeros : ℕ) × (s ≡ b ++ replicate zeros 0)
+
+pub zeros-bits : (n : ℕ) → byteBits (replicate n 0) ≡ replicate (8 * n) 0
+unfolding byteBits bits
+zeros-bits zero = refl
+zeros-bits (suc n) =
+    let e : 8 + 8 * n ≡ 8 * suc n = omega arith in
+    ap (λ (t : List ℕ). replicate 8 0 ++ t) (zeros-bits n) ∙ replicate-append-replicate 8 (8 * n) 0 ∙ ap (λ (k : ℕ). replicate k 0) e
+
+zeros-tail : (a b : List ℕ) (z : ℕ) → a ++ b ≡ replicate z 0 → Padded [] b
+zeros-tail [] b z e = (z, e)
+zeros-tail (x ∷ a) b zero e = absurd (omega (arith, ap length e))
+zeros-tail (x ∷ a) b (suc z) e = zeros-tail a b z (cons-tail e)
+
+module _ (bytes : List ℕ) (j x : ℕ) (long : length bytes ≡ 34) (h : j ≤ 67) where
+  abbrev p : List ℕ
+  p = take (j / 2) bytes
+
+  abbrev c : ℕ
+  c = getD bytes (j / 2) 0
+
+  abbrev q : List ℕ
+  q = drop (suc (j / 2)) bytes
+
+  bytes-cut : byteBits bytes ≡ byteBits p ++ (bits 4 (c / 16) ++ (bits 4 c ++ byteBits q))
+  bytes-cut = ap byteBits (split-at bytes (j / 2) 0 (omega arith)) ∙ cut-bits p c q
+
+  even-made : j % 2 ≡ 0 → (z : ℕ) → byteBits q ≡ replicate z 0 → byteBits (set bytes (j / 2 % 34) (x % 16 * 16)) ≡ (take (4 * j) (byteBits bytes) ++ bits 4 x) ++ replicate (4 + z) 0
+  even-made e z behind =
+      let i : j / 2 % 34 ≡ j / 2 = omega arith in
+      let b : take (4 * j) (byteBits bytes) ≡ byteBits p = take-bytes (j / 2) bytes (4 * j) (omega arith) (omega arith) in
+      let m : x % 16 * 16 % 16 ≡ 0 = omega arith in
+      let d : x % 16 * 16 / 16 ≡ x % 16 = omega arith in
+      let w : bits 4 (x % 16 * 16) ≡ replicate 4 0 = sym (bits-mod 4 (x % 16 * 16)) ∙ rw m (unfold bits in refl) in
+      rw (i, set-split bytes (j / 2) (x % 16 * 16) (omega arith), cut-bits p (x % 16 * 16) q, d, w, behind, b, bits-mod 4 x)
+      (ap (λ (s : List ℕ). byteBits p ++ (bits 4 x ++ s)) (replicate-append-replicate 4 z 0) ∙ sym (append-assoc (byteBits p) (bits 4 x) (replicate (4 + z) 0)))
+
+  even-padded : j % 2 ≡ 0 → Padded (take (4 * j) (byteBits bytes)) (byteBits bytes) → Padded (take (4 * j) (byteBits bytes) ++ bits 4 x) (byteBits (set bytes (j / 2 % 34) (x % 16 * 16)))
+  even-padded e z =
+      let b : take (4 * j) (byteBits bytes) ≡ byteBits p = take-bytes (j / 2) bytes (4 * j) (omega arith) (omega arith) in
+      let r : bits 4 (c / 16) ++ (bits 4 c ++ byteBits q) ≡ replicate (z .0) 0 = cancel (byteBits p) (sym bytes-cut ∙ z .1 ∙ ap (λ (t : List ℕ). t ++ replicate (z .0) 0) b) in
+      let t = zeros-tail (bits 4 (c / 16) ++ bits 4 c) (byteBits q) (z .0) (append-assoc (bits 4 (c / 16)) (bits 4 c) (byteBits q) ∙ r) in
+      (4 + t .0, even-made e (t .0) (t .1))
+
+  odd-made : j % 2 ≡ 1 → (z : ℕ) → byteBits q ≡ replicate z 0
+      → byteBits (set bytes (j / 2 % 34) (getD bytes (j / 2 % 34) 0 / 16 * 16 + x % 16)) ≡ ((byteBits p ++ bits 4 (c / 16)) ++ bits 4 x) ++ replicate z 0
+  odd-made e z behind =
+      let i : j / 2 % 34 ≡ j / 2 = omega arith in
+      let y : ℕ = c / 16 * 16 + x % 16 in
+      let d : (c / 16 * 16 + x % 16) / 16 ≡ c / 16 = omega arith in
+      let m : (c / 16 * 16 + x % 16) % 16 ≡ x % 16 = omega arith in
+      let w : bits 4 y ≡ bits 4 x = sym (bits-mod 4 y) ∙ ap (λ (t : ℕ). bits 4 t) m ∙ bits-mod 4 x in
+      rw i (ap byteBits (set-split bytes (j / 2) y (omega arith)) ∙ cut-bits p y q ∙ rw (d, w, behind) (simp append-assoc))
+
+  odd-padded : j % 2 ≡ 1 → Padded (take (4 * j) (byteBits bytes)) (byteBits bytes)
+      → Padded (take (4 * j) (byteBits bytes) ++ bits 4 x) (byteBits (set bytes (j / 2 % 34) (getD bytes (j / 2 % 34) 0 / 16 * 16 + x % 16)))
+  odd-padded e z =
+      let l : length p ≡ j / 2 = length-take-le (j / 2) bytes (omega arith) in
+      let b : take (4 * j) (byteBits bytes) ≡ byteBits p ++ bits 4 (c / 16) = ap (λ (t : List ℕ). take (4 * j) (byteBits t)) (split-at bytes (j / 2) 0 (omega arith)) ∙ take-half p c q (4 * j) (omega arith) in
+      let r : bits 4 c ++ byteBits q ≡ replicate (z .0) 0
+          = cancel (byteBits p ++ bits 4 (c / 16)) (append-assoc (byteBits p) (bits 4 (c / 16)) (bits 4 c ++ byteBits q) ∙ sym bytes-cut ∙ z .1 ∙ ap (λ (t : List ℕ). t ++ replicate (z .0) 0) b) in
+      let t = zeros-tail (bits 4 c) (byteBits q) (z .0) r in
+      (t .0, odd-made e (t .0) (t .1) ∙ ap (λ (s : List ℕ). (s ++ bits 4 x) ++ replicate (t .0) 0) (sym b))
+
+  -- zeros stay behind a nibble more
+  pub nibble-padded : Padded (take (4 * j) (byteBits bytes)) (byteBits bytes) → Padded (take (4 * j) (byteBits bytes) ++ bits 4 x) (byteBits (withNibble bytes j x))
+  unfolding withNibble
+  nibble-padded z =
+      picked (λ (t : List ℕ). Padded (take (4 * j) (byteBits bytes) ++ bits 4 x) (byteBits t)) (eqb (j % 2) 0) (set bytes (j / 2 % 34) (x % 16 * 16)) (set bytes (j / 2 % 34) (getD bytes (j / 2 % 34) 0 / 16 * 16 + x % 16))
+      (λ e. even-padded (eqb-true (j % 2) 0 e) z) (λ e. let d = eqb-false (j % 2) 0 e in odd-padded (omega arith) z)
+
+pub nibble-long : (bytes : List ℕ) (j x : ℕ) → length bytes ≡ 34 → length (withNibble bytes j x) ≡ 34
+unfolding withNibble
+nibble-long bytes j x l =
+    picked (λ (t : List ℕ). length t ≡ 34) (eqb (j % 2) 0) (set bytes (j / 2 % 34) (x % 16 * 16)) (set bytes (j / 2 % 34) (getD bytes (j / 2 % 34) 0 / 16 * 16 + x % 16))
+    (λ e. length-set bytes (j / 2 % 34) (x % 16 * 16) ∙ l) (λ e. length-set bytes (j / 2 % 34) (getD bytes (j / 2 % 34) 0 / 16 * 16 + x % 16) ∙ l)
+
+pub nibble-below : {bytes : List ℕ} → Below 256 bytes → (j x : ℕ) → Below 256 (withNibble bytes j x)
+unfolding withNibble
+nibble-below {bytes} b j x =
+    let h = at-below b (j / 2 % 34) in
+    picked (Below 256) (eqb (j % 2) 0) (set bytes (j / 2 % 34) (x % 16 * 16)) (set bytes (j / 2 % 34) (getD bytes (j / 2 % 34) 0 / 16 * 16 + x % 16))
+    (λ e. set-below b (j / 2 % 34) (x % 16 * 16) (omega arith)) (λ e. set-below b (j / 2 % 34) (getD bytes (j / 2 % 34) 0 / 16 * 16 + x % 16) (omega arith))
+
 -- four bits, and the opposite of the last
 pub nibble-slots : (x v : ℕ) → v < 2 → (v ≡ x % 2 → ⊥) → lineCode (bits 4 x) ≡ bits 4 x ++ (v ∷ [])
 unfolding lineCode bits
@@ -110,19 +214,6 @@ bit-added at b v h g =
     bits-split at 1 (b % 8 * 2 + v % 2) ∙ rw (q, last-bit b v g, low-bits at b h)
 
 -- ---- slots of a frame that begin as other slots do
-
-pub cons-head : {x y : ℕ} {s t : List ℕ} → x ∷ s ≡ y ∷ t → x ≡ y
-cons-head {x} {y} {s} {t} e = ap (λ (l : List ℕ). getD l 0 x) e
-
-pub cons-tail : {x y : ℕ} {s t : List ℕ} → x ∷ s ≡ y ∷ t → s ≡ t
-cons-tail {x} {y} {s} {t} e = ap (λ (l : List ℕ). drop 1 l) e
-
-pub cons-eq : {x y : ℕ} {s t : List ℕ} → x ≡ y → s ≡ t → x ∷ s ≡ y ∷ t
-cons-eq e d = λ i. e i ∷ d i
-
-pub cancel : (p : List ℕ) {s t : List ℕ} → p ++ s ≡ p ++ t → s ≡ t
-cancel [] e = e
-cancel (x ∷ p) e = cancel p (cons-tail e)
 
 -- whole nibbles b; more bits c, up to the pair 00
 pub record Opens (b c x t : List ℕ) : Type 0 where

@@ -31,11 +31,11 @@ glued a b d c₁ c₂ z h₁ h₂ k e w =
     sym (append-assoc a b (d ++ (c₁ ++ (c₂ ++ z)))) ∙ rw (e, x) (simp append-assoc)
 
 module _ (f : Frame) (fits : Fits 30 f) where
-  rest : List ℕ
+  abbrev pub rest : List ℕ
   rest = byteBits (replicate (30 - length (f .bytes)) 0)
 
-  coded-bits : byteBits (codedBytes f) ≡ carried f ++ (0 ∷ rest)
-  unfolding codedBytes byteBits carried covered rest
+  pub coded-bits : byteBits (codedBytes f) ≡ carried f ++ (0 ∷ rest)
+  unfolding codedBytes byteBits carried covered
   coded-bits =
       let c : ℕ = check (covered f) in
       rw (byteBits-append (f .bytes))

@@ -1,6 +1,6 @@
 -- The line, and the frame under way (01, Receiving; Sending, "Free line").
 --   unsettled, afterGood, free, takesStart, counted == the line        quiet, underWay, startEnded, commandEnded == where the frame stands
---   followed == the frame once a sample that is no fault is taken
+--   with.. == the frame under way with one of its fields changed        followed == the frame once a sample that is no fault is taken
 use Prim.Native.Nat.{ℕ, _+_, _-_, _*_, _/_, _%_}
 use mathlib.Core.Bool.{Bool, true, false}
 use mathlib.Core.List.{List}
@@ -8,6 +8,7 @@ use lib.Dec.{eqb, ltb, leb}
 use lib.ListN.{getD, set, replicate}
 use Rattle.line.specs.Bits.{pick}
 use Rattle.rules.specs.Definitions.Channels.{nobody, winnerFor}
+use Rattle.rules.specs.declared.Winner.{Winner}
 use Rattle.rules.specs.declared.Line.{Line}
 use Rattle.rules.specs.declared.Phase.{Phase}
 use Rattle.rules.specs.declared.Phase.the-variants.{Quiet, Start, Body, Acknowledge, End}
@@ -79,21 +80,35 @@ startEnded r = behind r 0
 unfoldable pub commandEnded : Reception → Bool
 commandEnded r = behind r 4
 
+-- ---- the fields of the frame under way
+
+abbrev pub withPlace : Reception → Place → Reception
+withPlace r p = record { place = p; nibbles = r .nibbles; bits = r .bits; bytes = r .bytes; winner = r .winner }
+
+abbrev pub withNibbles : Reception → ℕ → Reception
+withNibbles r n = record { place = r .place; nibbles = n; bits = r .bits; bytes = r .bytes; winner = r .winner }
+
+abbrev pub withBits : Reception → ℕ → Reception
+withBits r bits = record { place = r .place; nibbles = r .nibbles; bits = bits; bytes = r .bytes; winner = r .winner }
+
+abbrev pub withBytes : Reception → List ℕ → Reception
+withBytes r bytes = record { place = r .place; nibbles = r .nibbles; bits = r .bits; bytes = bytes; winner = r .winner }
+
+abbrev pub withWinner : Reception → Winner → Reception
+withWinner r w = record { place = r .place; nibbles = r .nibbles; bits = r .bits; bytes = r .bytes; winner = w }
+
 -- ---- the frame goes on
 
-unfoldable pub withPlace : Reception → Place → ℕ → Reception
-withPlace r p bits = record { place = p; nibbles = r .nibbles; bits = bits; bytes = r .bytes; winner = r .winner }
-
 unfoldable pub moved : Reception → Reception
-moved r = withPlace r (atPlace (r .place .phase) (r .place .at + 1)) (r .bits)
+moved r = withPlace r (atPlace (r .place .phase) (r .place .at + 1))
 
 unfoldable pub entered : Reception → Phase → Reception
-entered r phase = withPlace r (atPlace phase 0) 0
+entered r phase = withBits (withPlace r (atPlace phase 0)) 0
 
 unfoldable pub bitTaken : Reception → ℕ → Reception
-bitTaken r v = withPlace r (atPlace (r .place .phase) (r .place .at + 1)) (r .bits % 8 * 2 + v % 2)
+bitTaken r v = withBits (moved r) (r .bits % 8 * 2 + v % 2)
 
--- nibble k of the bytes, high half first
+-- nibble k of the bytes, high half first; the 34 bytes hold nibbles 0 to 67, and `% 34` is there for other numbers only
 unfoldable pub withNibble : List ℕ → ℕ → ℕ → List ℕ
 withNibble bytes k nibble =
     pick (eqb (k % 2) 0) (set bytes (k / 2 % 34) (nibble % 16 * 16))
@@ -103,25 +118,27 @@ withNibble bytes k nibble =
 unfoldable pub moreNibbles : ℕ → ℕ
 moreNibbles n = pick (ltb n 67) (n + 1) 67
 
+-- the four bits that were taken, laid behind the whole nibbles
+unfoldable pub bitsLaid : Reception → Reception
+bitsLaid r = withBytes r (withNibble (r .bytes) (r .nibbles) (r .bits))
+
 unfoldable pub nibbleTaken : Reception → Reception
-nibbleTaken r =
-    record {
-      place = atPlace Body 0;
-      nibbles = moreNibbles (r .nibbles);
-      bits = 0;
-      bytes = withNibble (r .bytes) (r .nibbles) (r .bits);
-      winner = r .winner;
-    }
+nibbleTaken r = withNibbles (entered (bitsLaid r) Body) (moreNibbles (r .nibbles))
+
+-- The check's last three bits and the first half of the pair 00 are four bits too: the bytes then hold the whole check and a zero bit behind it.
+unfoldable pub dataEnded : Reception → Reception
+dataEnded r = entered (bitsLaid r) Acknowledge
 
 unfoldable pub begun : Reception
-begun = withPlace quiet (atPlace Start 1) 0
+begun = withPlace quiet (atPlace Start 1)
 
 unfoldable pub followStart : Reception → Reception
 followStart r = pick (ltb (r .place .at) 9) (moved r) (entered r Body)
 
--- a plain bit or first half is kept; a second half closes a nibble, or ends the data where it equals the first
+-- Slots 0 to 3 of five are plain bits and a first half: each is taken. Slot 4 is a second half: unlike the first it closes a nibble; equal to the first, in the pair 00, it
+-- ends the data.
 unfoldable pub followBody : Reception → ℕ → Reception
-followBody r v = pick (ltb (r .place .at) 4) (bitTaken r v) (pick (eqb v (r .bits % 2)) (entered r Acknowledge) (nibbleTaken r))
+followBody r v = pick (ltb (r .place .at) 4) (bitTaken r v) (pick (eqb v (r .bits % 2)) (dataEnded r) (nibbleTaken r))
 
 unfoldable pub followAcknowledge : Reception → ℕ → Reception
 followAcknowledge r v = pick (eqb (r .place .at) 0) (bitTaken r v) (entered r End)
@@ -141,15 +158,8 @@ unfoldable pub followed : Reception → ℕ → Reception
 followed r v = followIn (r .place .phase) r v
 
 -- "The winner .. taken in the last command slot and held (house)"
-unfoldable pub named : Reception → List ℕ → Reception
-named r m =
-    record {
-      place = r .place;
-      nibbles = r .nibbles;
-      bits = r .bits;
-      bytes = r .bytes;
-      winner = winnerFor m (getD (r .bytes) 0 0) (getD (r .bytes) 1 0);
-    }
+unfoldable pub winnerTaken : Reception → List ℕ → Reception
+winnerTaken r m = withWinner r (winnerFor m (getD (r .bytes) 0 0) (getD (r .bytes) 1 0))
 
 -- data bytes, by the whole nibbles before the last three bits: identifier, command and check have seven
 unfoldable pub dataCount : ℕ → ℕ

@@ -8,7 +8,7 @@ use mathlib.Core.List.{List}
 use lib.ListN.{getD}
 use Rattle.line.specs.Bits.{pick}
 use Rattle.rules.specs.Definitions.Registers.{lineControl, transmitControl, diagnosisControl, autonomous, sampled}
-use Rattle.rules.specs.Definitions.Reception.{underWay, commandEnded, named}
+use Rattle.rules.specs.Definitions.Reception.{underWay, commandEnded, winnerTaken}
 use Rattle.rules.specs.Definitions.Hearing.{lineAfter, receptionAfter, hearFrame, hearQuiet, receiverLevel}
 use Rattle.rules.specs.Definitions.Delivery.{deliveryOf, memoryDelivered, reportHeard, reportDelivered}
 use Rattle.rules.specs.Definitions.Attempt.{levelAt, judge, advance}
@@ -61,7 +61,7 @@ ending k w = endingOf w (serviceJudged w (k .service))
 -- the winner is taken in the last command slot, whoever sends
 unfoldable pub receptionJudged : List ℕ → Hearing → Reception → ℕ → Reception
 receptionJudged m h r v =
-    pick (commandEnded (receptionAfter h r v)) (named (receptionAfter h r v) m) (receptionAfter h r v)
+    pick (commandEnded (receptionAfter h r v)) (winnerTaken (receptionAfter h r v) m) (receptionAfter h r v)
 
 -- 0x07, then what the frame did, then 0x05 at an error, then the end of the service
 unfoldable pub reportAfter : Core → Verdict → Hearing → Report
