@@ -2,6 +2,7 @@
 ghost use mathlib.Core.Path.{_≡_};
 ghost use Prim.Native.Nat.{_+_, _<_};
 ghost use Rattle.rules.specs.Definitions.Attempt as rule;
+ghost use Rattle.rules.specs.Definitions.Setters as setter;
 ghost use Rattle.rules.specs.declared.Stage.the-variants as stages;
 ghost use Rattle.attempt.specs.Following as place;
 use line::Half;
@@ -150,7 +151,7 @@ fn judge(e: Effort, v: u8) -> Verdict
 // ---- what the attempt spends
 
 fn with_progress(e: Effort, p: Progress, c: Counters) -> Effort
-    ensures { λ r. ⌜ r ≡ rule.withProgress e p c ⌝ }
+    ensures { λ r. ⌜ r ≡ setter.withCounters (setter.withProgress e p) c ⌝ }
 {
     let mut t = e;
     t.progress = p;
@@ -188,7 +189,7 @@ fn error_spent(c: Counters) -> Counters
 // The attempt goes on to its next slot.
 fn sent_on(e: Effort) -> Effort
     requires { ⌜ e .progress .at + 1 < 65536 ⌝ }
-    ensures { λ r. ⌜ r ≡ rule.withProgress e (rule.atStage stages.Sending (e .progress .at + 1)) (rule.slotSpent (e .counters)) ⌝ }
+    ensures { λ r. ⌜ r ≡ setter.withCounters (setter.withProgress e (rule.atStage stages.Sending (e .progress .at + 1))) (rule.slotSpent (e .counters)) ⌝ }
 {
     let c = e.counters;
     with_progress(
@@ -200,7 +201,7 @@ fn sent_on(e: Effort) -> Effort
 
 // The attempt has ended: the service waits again.
 fn waiting(e: Effort, c: Counters) -> Effort
-    ensures { λ r. ⌜ r ≡ rule.withProgress e (rule.atStage stages.Waiting 0) c ⌝ }
+    ensures { λ r. ⌜ r ≡ setter.withCounters (setter.withProgress e (rule.atStage stages.Waiting 0)) c ⌝ }
 {
     with_progress(e, stage::at_stage(Stage::Waiting, 0), c)
 }

@@ -1,7 +1,9 @@
 // What a sample, the choice and the end of a service do to 0x05, 0x06, 0x07 and 0x09 (01, Receiving and Sending).
 ghost use mathlib.Core.Path.{_≡_};
+ghost use mathlib.Core.Bool.{true};
 ghost use Rattle.rules.specs.Definitions.Delivery as delivery;
 ghost use Rattle.rules.specs.Definitions.Service as rule;
+ghost use Rattle.rules.specs.Definitions.Setters as setter;
 use registers::Code;
 use rules::Delivery;
 use rules::Ending;
@@ -17,7 +19,7 @@ use rules::Verdict;
 
 // Each error replaces 0x07 (house).
 fn with_error(x: Report, code: u8) -> Report
-    ensures { λ r. ⌜ r ≡ delivery.withError x code ⌝ }
+    ensures { λ r. ⌜ r ≡ setter.withError x code ⌝ }
 {
     let mut t = x;
     t.error = code;
@@ -25,8 +27,8 @@ fn with_error(x: Report, code: u8) -> Report
 }
 
 // RE.
-fn with_receive_error(x: Report) -> Report
-    ensures { λ r. ⌜ r ≡ delivery.withReceiveError x ⌝ }
+fn receive_error(x: Report) -> Report
+    ensures { λ r. ⌜ r ≡ delivery.receiveError x ⌝ }
 {
     let mut t = x;
     t.flags.re = true;
@@ -69,8 +71,8 @@ fn report_delivered(d: Delivery, x: Report, r: Reception) -> Report
     match d {
         Delivery::Nothing => x,
         Delivery::Stored => report_stored(x, channels::acknowledge_asked(b[1]), w.channel),
-        Delivery::Overflowed => with_receive_error(with_error(x, Code::BOV)),
-        Delivery::Spoiled => with_receive_error(x),
+        Delivery::Overflowed => receive_error(with_error(x, Code::BOV)),
+        Delivery::Spoiled => receive_error(x),
     }
 }
 
@@ -117,7 +119,7 @@ fn report_judged(w: Verdict, x: Report, s: Service) -> Report
 }
 
 fn raise_te(f: Flags) -> Flags
-    ensures { λ r. ⌜ r ≡ rule.raiseTe f ⌝ }
+    ensures { λ r. ⌜ r ≡ setter.withTe f true ⌝ }
 {
     let mut t = f;
     t.te = true;
@@ -125,7 +127,7 @@ fn raise_te(f: Flags) -> Flags
 }
 
 fn raise_tok(f: Flags) -> Flags
-    ensures { λ r. ⌜ r ≡ rule.raiseTok f ⌝ }
+    ensures { λ r. ⌜ r ≡ setter.withTok f true ⌝ }
 {
     let mut t = f;
     t.tok = true;
@@ -134,7 +136,7 @@ fn raise_tok(f: Flags) -> Flags
 
 // 0x06 and 0x09.
 fn report_message(x: Report, s: Service, f: Flags) -> Report
-    ensures { λ r. ⌜ r ≡ delivery.withFlags (delivery.withMessage x (rule.retriesOf s)) f ⌝ }
+    ensures { λ r. ⌜ r ≡ setter.withFlags (setter.withMessage x (rule.retriesOf s)) f ⌝ }
 {
     let mut t = x;
     t.message = retries_of(s);

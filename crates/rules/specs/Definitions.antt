@@ -1,4 +1,5 @@
 -- What a reader must believe, in the order of document 01: each definition names its sentence.
+pub mod Setters
 pub mod Registers
 pub mod Channels
 pub mod Mailbox

@@ -10,7 +10,7 @@ use Rattle.rules.specs.Definitions.Registers.{lineControl, transmitted}
 use Rattle.rules.specs.Definitions.Reception.{underWay, startEnded}
 use Rattle.rules.specs.Definitions.Attempt.{waits}
 use Rattle.rules.specs.Definitions.Service.{started, roleOf}
-use Rattle.rules.specs.Definitions.State.{idleDue, isActive, serving, withService}
+use Rattle.rules.specs.Definitions.State.{idleDue, isActive, serving}
 use Rattle.rules.specs.Definitions.Slots.{chooses, choiceMade, startMade, followsOn, drives, drivesAs}
 use Rattle.rules.specs.Definitions.Run.{accept, answered}
 use Rattle.rules.specs.Definitions.Answers.{controller}
@@ -52,7 +52,7 @@ unfolding choiceMade chooses
 no-choice m k e = rw (under-way k e, pick-same (serving (k .service)) false, pick-same (isActive (k .activity .mode)) false)
 
 no-start : (m : List ℕ) (k : Core) → begins k ≡ false → startMade m k ≡ k
-unfolding startMade started withService
+unfolding startMade started
 no-start m k e = rw (not-ended k e, under-way k e, pick-same (waits (k .service .effort .progress)) (k .service))
 
 pub nothing-follows : (m : List ℕ) (k : Core) → begins k ≡ false → followsOn m k ≡ k

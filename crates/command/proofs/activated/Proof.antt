@@ -1,9 +1,9 @@
-use Rattle.rules.specs.Definitions.State.{activated, withActivity, inMode}
+use Rattle.rules.specs.Definitions.State.{activated, inMode}
 use Rattle.command.proofs.activated.Statement.{statement}
 use Rattle.command.proofs.activated.Tie as tie
 
 pub activated-spec : {M : Type 1} → statement M
-unfolding activated withActivity inMode
+unfolding activated inMode
 activated-spec =
     tie.close (tie.spec
     (λ c κs. tt)

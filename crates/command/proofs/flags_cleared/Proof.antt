@@ -1,11 +1,9 @@
 use Rattle.rules.specs.Definitions.Host.{flagsCleared}
-use Rattle.rules.specs.Definitions.State.{withReport}
-use Rattle.rules.specs.Definitions.Delivery.{withFlags}
 use Rattle.command.proofs.flags_cleared.Statement.{statement}
 use Rattle.command.proofs.flags_cleared.Tie as tie
 
 pub flags-cleared-spec : {M : Type 1} → statement M
-unfolding flagsCleared withReport withFlags
+unfolding flagsCleared
 flags-cleared-spec =
     tie.close (tie.spec
     (λ c κs. tt)

@@ -1,9 +1,9 @@
-use Rattle.rules.specs.Definitions.State.{idleAsked, withActivity, inMode}
+use Rattle.rules.specs.Definitions.State.{idleAsked, inMode}
 use Rattle.command.proofs.idle_asked.Statement.{statement}
 use Rattle.command.proofs.idle_asked.Tie as tie
 
 pub idle-asked-spec : {M : Type 1} → statement M
-unfolding idleAsked withActivity inMode
+unfolding idleAsked inMode
 idle-asked-spec =
     tie.close (tie.spec
     (λ c κs. tt)

@@ -1,10 +1,9 @@
 use Rattle.rules.specs.Definitions.Host.{stoppedCore}
-use Rattle.rules.specs.Definitions.State.{withService, withReport}
 use Rattle.command.proofs.stopped_core.Statement.{statement}
 use Rattle.command.proofs.stopped_core.Tie as tie
 
 pub stopped-core-spec : {M : Type 1} → statement M
-unfolding stoppedCore withService withReport
+unfolding stoppedCore
 stopped-core-spec =
     tie.close (tie.spec
     (λ c κs. tt)

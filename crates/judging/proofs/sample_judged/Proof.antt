@@ -1,12 +1,11 @@
 use mathlib.Core.Path.{_∙_}
 use Rattle.rules.specs.Definitions.Slots.{memoryJudged, coreJudged, reportAfter, ending, serviceJudged}
-use Rattle.rules.specs.Definitions.Service.{withEffort}
 use Rattle.judging.specs.Ordinary.{memoryAfter, coreAfter, reportOf}
 use Rattle.judging.proofs.sample_judged.Statement.{statement}
 use Rattle.judging.proofs.sample_judged.Tie as tie
 
 pub sample-judged-spec : {M : Type 1} → statement M
-unfolding memoryAfter coreAfter reportOf memoryJudged coreJudged reportAfter ending serviceJudged withEffort
+unfolding memoryAfter coreAfter reportOf memoryJudged coreJudged reportAfter ending serviceJudged
 sample-judged-spec =
     tie.close (tie.spec
     (λ c κs. tt)

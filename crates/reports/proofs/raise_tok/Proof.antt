@@ -1,10 +1,8 @@
 use mathlib.Core.Path.{refl}
-use Rattle.rules.specs.Definitions.Service.{raiseTok}
 use Rattle.reports.proofs.raise_tok.Statement.{statement}
 use Rattle.reports.proofs.raise_tok.Tie as tie
 
 pub raise-tok-spec : {M : Type 1} → statement M
-unfolding raiseTok
 raise-tok-spec =
     tie.close (tie.spec
     (λ c. refl))

@@ -19,5 +19,5 @@ report-delivered-spec =
     (λ c κs. tt)
     (λ c. simp (c .enum-told .given .1))
     (λ c. simp (← (c .report-stored .ensures), ← (c .before .acknowledge-asked .ensures), c .before .before .enum-told2 .given .1))
-    (λ c. simp (← (c .with-receive-error .ensures), ← (c .before .with-error .ensures), c .before .before .enum-told3 .given .1))
-    (λ c. simp (← (c .with-receive-error2 .ensures), c .before .enum-told4 .given .1)))
+    (λ c. simp (← (c .receive-error .ensures), ← (c .before .with-error .ensures), c .before .before .enum-told3 .given .1))
+    (λ c. simp (← (c .receive-error2 .ensures), c .before .enum-told4 .given .1)))

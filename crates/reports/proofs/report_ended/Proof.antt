@@ -1,10 +1,9 @@
 use Rattle.rules.specs.Definitions.Service.{reportEnded}
-use Rattle.rules.specs.Definitions.Delivery.{withFlags, withMessage}
 use Rattle.reports.proofs.report_ended.Statement.{statement}
 use Rattle.reports.proofs.report_ended.Tie as tie
 
 pub report-ended-spec : {M : Type 1} → statement M
-unfolding reportEnded withFlags withMessage
+unfolding reportEnded
 report-ended-spec =
     tie.close (tie.spec
     (λ c. c .match .keys1)

@@ -9,15 +9,16 @@ use borrow.Author.Tests.{eqb-true, eq-eqb, ltb-true, lt-ltb, le-ltb}
 use lib.Dec.{eqb, ltb}
 use lib.ListN.{getD}
 use Rattle.line.specs.Bits.{pick}
+use Rattle.rules.specs.Definitions.Setters.{withTe, withTok, withRe, withRok, withRnok, withActivity, withReport, withLine, withService}
 use Rattle.rules.specs.Definitions.Registers.{both, command, interruptReset, asksReset, asksIdle, asksActivation, unless, cleared, resetReport}
 use Rattle.rules.specs.Definitions.Channels.{acknowledgeAsked}
 use Rattle.rules.specs.Statements.Bits.{bitAt}
 use Rattle.rules.specs.Definitions.Reception.{underWay, isUnderWay, unsettled, takesStart}
 use Rattle.rules.specs.Definitions.Hearing.{hearIn, hearFrame, hearQuiet}
-use Rattle.rules.specs.Definitions.Delivery.{delivered, deliveryTo, deliveryOf, withError, withFlags, withMessage, withSending, raiseRe, raiseRok, raiseRnok, withReceiveError, reportStored, reportHeard, reportDelivered}
-use Rattle.rules.specs.Definitions.Attempt.{largest, moreAttempts, judge, atStage, betweenAttempts, isBetween, withProgress, lostSpent, errorSpent, advance, exhausted}
-use Rattle.rules.specs.Definitions.Service.{roleOf, withEffort, stopped, endingOf, settled, reportSending, reportJudged, raiseTe, raiseTok, reportEnded}
-use Rattle.rules.specs.Definitions.State.{isActive, inMode, withActivity, withReport, withService, resetCore, idleDue, slept, idleAsked, activated}
+use Rattle.rules.specs.Definitions.Delivery.{delivered, deliveryTo, deliveryOf, receiveError, reportStored, reportHeard, reportDelivered}
+use Rattle.rules.specs.Definitions.Attempt.{largest, moreAttempts, judge, atStage, betweenAttempts, isBetween, slotSpent, lostSpent, errorSpent, advance, exhausted}
+use Rattle.rules.specs.Definitions.Service.{roleOf, stopped, endingOf, settled, reportSending, reportJudged, reportEnded}
+use Rattle.rules.specs.Definitions.State.{isActive, inMode, resetCore, idleDue, slept, idleAsked, activated}
 use Rattle.rules.specs.Definitions.Slots.{longest, heardAs, heard, delivers, serviceJudged, ending, reportAfter, memoryJudged, coreJudged, startMade, followsOn, sampleOf, judgedSlot, sampledSlot, activeSlot}
 use Rattle.rules.specs.Definitions.Host.{resetAll, resets, sleeps, modeCommanded, flagsCleared, coreWritten, serviceAsked, stoppedCore, byteWritten, written}
 use Rattle.rules.specs.Definitions.Run.{fresh, accept, answered, restedSlot, step, next, after}
@@ -60,19 +61,19 @@ use Rattle.rules.specs.declared.Event.the-variants.{Reset, Write, Read, 
 
 unfoldable endedFlags : Ending → Flags → Flags
 endedFlags Going f = f
-endedFlags Sent f = raiseTok f
-endedFlags Exhausted f = raiseTe f
+endedFlags Sent f = withTok f true
+endedFlags Exhausted f = withTe f true
 endedFlags Aborted f = f
 endedFlags Rearbitrated f = f
 
 unfoldable deliveredFlags : Delivery → Bool → Flags → Flags
 deliveredFlags Nothing asked f = f
-deliveredFlags Stored asked f = pick asked (raiseRok f) (raiseRnok f)
-deliveredFlags Overflowed asked f = raiseRe f
-deliveredFlags Spoiled asked f = raiseRe f
+deliveredFlags Stored asked f = pick asked (withRok f true) (withRnok f true)
+deliveredFlags Overflowed asked f = withRe f true
+deliveredFlags Spoiled asked f = withRe f true
 
 flags-ended : (x : Ending) (r : Report) (s : Service) → reportEnded x r s .flags ≡ endedFlags x (r .flags)
-unfolding reportEnded withFlags withMessage endedFlags
+unfolding reportEnded endedFlags
 flags-ended Going r s = refl
 flags-ended Sent r s = refl
 flags-ended Exhausted r s = refl
@@ -80,14 +81,14 @@ flags-ended Aborted r s = refl
 flags-ended Rearbitrated r s = refl
 
 flags-delivered : (d : Delivery) (r : Report) (x : Reception) → reportDelivered d r x .flags ≡ deliveredFlags d (acknowledgeAsked (getD (x .bytes) 1 0)) (r .flags)
-unfolding reportDelivered reportStored withReceiveError withError withFlags withMessage deliveredFlags
+unfolding reportDelivered reportStored receiveError deliveredFlags
 flags-delivered Nothing r x = refl
 flags-delivered Stored r x = refl
 flags-delivered Overflowed r x = refl
 flags-delivered Spoiled r x = refl
 
 flags-verdict : (w : Verdict) (r : Report) (s : Service) → reportJudged w r s .flags ≡ r .flags
-unfolding reportJudged reportSending withSending
+unfolding reportJudged reportSending
 flags-verdict Unjudged r s = refl
 flags-verdict Goes r s = refl
 flags-verdict Lost r s = refl
@@ -95,7 +96,7 @@ flags-verdict (Failed code) r s = refl
 flags-verdict Done r s = refl
 
 flags-heard : (h : Hearing) (r : Report) → reportHeard h r .flags ≡ r .flags
-unfolding reportHeard withError
+unfolding reportHeard
 flags-heard Silent r = refl
 flags-heard Follows r = refl
 flags-heard (Fault code) r = refl
@@ -115,7 +116,7 @@ flags-after k w h =
     ∙ ap (deliveredFlags (delivers w h (k .reception)) (acknowledgeAsked (getD (k .reception .bytes) 1 0))) (flags-heard h (k .report)))
 
 flags-follow : (m : List ℕ) (k : Core) → followsOn m k .report .flags ≡ k .report .flags
-unfolding followsOn startMade withService
+unfolding followsOn startMade
 flags-follow m k = choice-flags m (idleDue k) ∙ ap (λ (x : Report). x .flags) (idle-report k)
 
 abbrev verdictOf : Controller → ℕ → Verdict
@@ -135,7 +136,7 @@ flags-sampled c v =
 
 -- ---- one bit of them
 
-ended-same : (g : Flags → Bool) → ((f : Flags) → g (raiseTok f) ≡ g f) → ((f : Flags) → g (raiseTe f) ≡ g f) → (x : Ending) (f : Flags) → g (endedFlags x f) ≡ g f
+ended-same : (g : Flags → Bool) → ((f : Flags) → g (withTok f true) ≡ g f) → ((f : Flags) → g (withTe f true) ≡ g f) → (x : Ending) (f : Flags) → g (endedFlags x f) ≡ g f
 unfolding endedFlags
 ended-same g p q Going f = refl
 ended-same g p q Sent f = p f
@@ -143,11 +144,11 @@ ended-same g p q Exhausted f = q f
 ended-same g p q Aborted f = refl
 ended-same g p q Rearbitrated f = refl
 
-delivered-same : (g : Flags → Bool) → ((f : Flags) → g (raiseRe f) ≡ g f) → ((f : Flags) → g (raiseRok f) ≡ g f) → ((f : Flags) → g (raiseRnok f) ≡ g f)
+delivered-same : (g : Flags → Bool) → ((f : Flags) → g (withRe f true) ≡ g f) → ((f : Flags) → g (withRok f true) ≡ g f) → ((f : Flags) → g (withRnok f true) ≡ g f)
     → (d : Delivery) (a : Bool) (f : Flags) → g (deliveredFlags d a f) ≡ g f
 unfolding deliveredFlags
 delivered-same g p q r Nothing a f = refl
-delivered-same g p q r Stored a f = left g a (raiseRok f) (raiseRnok f) (g f) (q f) (r f)
+delivered-same g p q r Stored a f = left g a (withRok f true) (withRnok f true) (g f) (q f) (r f)
 delivered-same g p q r Overflowed a f = p f
 delivered-same g p q r Spoiled a f = p f
 
@@ -171,7 +172,7 @@ isSpoiled Overflowed = true
 isSpoiled Spoiled = true
 
 ended-tok : (x : Ending) (f : Flags) → endedFlags x f .tok ≡ pick (isSent x) true (f .tok)
-unfolding endedFlags isSent raiseTok raiseTe
+unfolding endedFlags isSent
 ended-tok Going f = refl
 ended-tok Sent f = refl
 ended-tok Exhausted f = refl
@@ -179,7 +180,7 @@ ended-tok Aborted f = refl
 ended-tok Rearbitrated f = refl
 
 ended-te : (x : Ending) (f : Flags) → endedFlags x f .te ≡ pick (isExhausted x) true (f .te)
-unfolding endedFlags isExhausted raiseTok raiseTe
+unfolding endedFlags isExhausted
 ended-te Going f = refl
 ended-te Sent f = refl
 ended-te Exhausted f = refl
@@ -187,7 +188,7 @@ ended-te Aborted f = refl
 ended-te Rearbitrated f = refl
 
 delivered-re : (d : Delivery) (a : Bool) (f : Flags) → deliveredFlags d a f .re ≡ pick (isSpoiled d) true (f .re)
-unfolding deliveredFlags isSpoiled raiseRe raiseRok raiseRnok
+unfolding deliveredFlags isSpoiled
 delivered-re Nothing a f = refl
 delivered-re Stored true f = refl
 delivered-re Stored false f = refl
@@ -195,7 +196,7 @@ delivered-re Overflowed a f = refl
 delivered-re Spoiled a f = refl
 
 delivered-rok : (d : Delivery) (a : Bool) (f : Flags) → deliveredFlags d a f .rok ≡ pick (both (isStored d) a) true (f .rok)
-unfolding deliveredFlags isStored raiseRe raiseRok raiseRnok
+unfolding deliveredFlags isStored
 delivered-rok Nothing a f = refl
 delivered-rok Stored true f = refl
 delivered-rok Stored false f = refl
@@ -203,7 +204,7 @@ delivered-rok Overflowed a f = refl
 delivered-rok Spoiled a f = refl
 
 delivered-rnok : (d : Delivery) (a : Bool) (f : Flags) → deliveredFlags d a f .rnok ≡ pick (both (isStored d) (not a)) true (f .rnok)
-unfolding deliveredFlags isStored raiseRe raiseRok raiseRnok
+unfolding deliveredFlags isStored
 delivered-rnok Nothing a f = refl
 delivered-rnok Stored true f = refl
 delivered-rnok Stored false f = refl
@@ -215,37 +216,31 @@ module _ (c : Controller) (v : ℕ) where
   flags = sampledSlot c v .core .report .flags
 
   slot-rst : flags .rst ≡ flagsOf c .rst
-  unfolding raiseTok raiseTe raiseRe raiseRok raiseRnok
   slot-rst =
       ap (λ (f : Flags). f .rst) (flags-sampled c v) ∙ ended-same (λ f. f .rst) (λ f. refl) (λ f. refl) (ending (c .core) (verdictOf c v)) _
       ∙ delivered-same (λ f. f .rst) (λ f. refl) (λ f. refl) (λ f. refl) (deliveryIn c v) (asked (c .core .reception)) (flagsOf c)
 
   slot-tok : flags .tok ≡ pick (isSent (ending (c .core) (verdictOf c v))) true (flagsOf c .tok)
-  unfolding raiseRe raiseRok raiseRnok
   slot-tok =
       ap (λ (f : Flags). f .tok) (flags-sampled c v) ∙ ended-tok (ending (c .core) (verdictOf c v)) _
       ∙ ap (λ (b : Bool). pick (isSent (ending (c .core) (verdictOf c v))) true b) (delivered-same (λ f. f .tok) (λ f. refl) (λ f. refl) (λ f. refl) (deliveryIn c v) (asked (c .core .reception)) (flagsOf c))
 
   slot-te : flags .te ≡ pick (isExhausted (ending (c .core) (verdictOf c v))) true (flagsOf c .te)
-  unfolding raiseRe raiseRok raiseRnok
   slot-te =
       ap (λ (f : Flags). f .te) (flags-sampled c v) ∙ ended-te (ending (c .core) (verdictOf c v)) _
       ∙ ap (λ (b : Bool). pick (isExhausted (ending (c .core) (verdictOf c v))) true b) (delivered-same (λ f. f .te) (λ f. refl) (λ f. refl) (λ f. refl) (deliveryIn c v) (asked (c .core .reception)) (flagsOf c))
 
   slot-re : flags .re ≡ pick (isSpoiled (deliveryIn c v)) true (flagsOf c .re)
-  unfolding raiseTok raiseTe
   slot-re =
       ap (λ (f : Flags). f .re) (flags-sampled c v) ∙ ended-same (λ f. f .re) (λ f. refl) (λ f. refl) (ending (c .core) (verdictOf c v)) _
       ∙ delivered-re (deliveryIn c v) (asked (c .core .reception)) (flagsOf c)
 
   slot-rok : flags .rok ≡ pick (both (isStored (deliveryIn c v)) (asked (c .core .reception))) true (flagsOf c .rok)
-  unfolding raiseTok raiseTe
   slot-rok =
       ap (λ (f : Flags). f .rok) (flags-sampled c v) ∙ ended-same (λ f. f .rok) (λ f. refl) (λ f. refl) (ending (c .core) (verdictOf c v)) _
       ∙ delivered-rok (deliveryIn c v) (asked (c .core .reception)) (flagsOf c)
 
   slot-rnok : flags .rnok ≡ pick (both (isStored (deliveryIn c v)) (not (asked (c .core .reception)))) true (flagsOf c .rnok)
-  unfolding raiseTok raiseTe
   slot-rnok =
       ap (λ (f : Flags). f .rnok) (flags-sampled c v) ∙ ended-same (λ f. f .rnok) (λ f. refl) (λ f. refl) (ending (c .core) (verdictOf c v)) _
       ∙ delivered-rnok (deliveryIn c v) (asked (c .core .reception)) (flagsOf c)
@@ -253,16 +248,16 @@ module _ (c : Controller) (v : ℕ) where
 -- ---- the flags after a write
 
 mode-flags : (k : Core) (v : ℕ) → modeCommanded k v .report .flags ≡ k .report .flags
-unfolding modeCommanded idleAsked activated withActivity
+unfolding modeCommanded idleAsked activated
 mode-flags k v =
     left (λ (x : Core). x .report .flags) (asksIdle v) (idleAsked k) (pick (asksActivation v) (activated k) k) (k .report .flags)
     (left (λ (x : Core). x .report .flags) (isActive (k .activity .mode)) (withActivity k (inMode Active true)) k (k .report .flags) refl refl)
     (left (λ (x : Core). x .report .flags) (asksActivation v) (activated k) k (k .report .flags)
-    (left (λ (x : Core). x .report .flags) (isActive (k .activity .mode)) (withActivity k (inMode Active false)) (record { activity = inMode Active false; report = k .report; line = unsettled; reception = k .reception; service = k .service }) (k .report .flags) refl refl)
+    (left (λ (x : Core). x .report .flags) (isActive (k .activity .mode)) (withActivity k (inMode Active false)) (withLine (withActivity k (inMode Active false)) unsettled) (k .report .flags) refl refl)
     refl)
 
 stopped-flags : (k : Core) (s : Service) → stoppedCore k s .report .flags ≡ endedFlags (stopped s) (k .report .flags)
-unfolding stoppedCore withService withReport
+unfolding stoppedCore
 stopped-flags k s =
     ap (λ (x : Report). x .flags) (idle-report (withService (withReport k (reportEnded (stopped s) (k .report) s)) (settled (stopped s) s))) ∙ flags-ended (stopped s) (k .report) s
 
@@ -296,7 +291,7 @@ module _ (g : Flags → Bool) (c : Controller) (Cause : Event → Type 0)
     (ends : (a v : ℕ) (f : Flags) → g (endedFlags (stopped (serviceAsked (c .core .service) a v)) f) ≡ g f)
     (at-slot : (l : ℕ) → Sampled c l → g (flagsOf c) ≡ false → g (sampledSlot c (sampleOf c l) .core .report .flags) ≡ true → Cause (Slot l)) where
   core-clear : (a v : ℕ) → g (flagsOf c) ≡ false → g (coreWritten (c .core) a v .report .flags) ≡ false
-  unfolding coreWritten flagsCleared withReport withFlags
+  unfolding coreWritten flagsCleared
   core-clear a v e =
       left (λ (x : Core). g (x .report .flags)) (eqb a command) (modeCommanded (c .core) v) (pick (eqb a interruptReset) (flagsCleared (c .core) v) (c .core)) false
       (ap g (mode-flags (c .core) v) ∙ e)
@@ -404,7 +399,7 @@ rst-by c =
       only =
           only-by (λ f. f .rst) c (Resets c) (λ x i. by-pin i) (λ a v x i d. let r = asks-reset a v d in by-command i (r .0) (r .1))
           (λ f v e. unfold cleared in unless-false (f .rst) (eqb (v / 128) 1) e)
-          (λ a v f. ended-same (λ f. f .rst) (λ f. unfold raiseTok in refl) (λ f. unfold raiseTe in refl) (stopped (serviceAsked (c .core .service) a v)) f)
+          (λ a v f. ended-same (λ f. f .rst) (λ f. refl) (λ f. refl) (stopped (serviceAsked (c .core .service) a v)) f)
           (λ l s e h. clash e (sym (slot-rst c (sampleOf c l)) ∙ h));
     }
 
@@ -501,11 +496,11 @@ more-errors e h = rw (lt-ltb (e .counters .errors .0) largest (omega arith))
 
 module _ (s : Service) (few : s .effort .counters .errors .0 ≤ s .effort .setting) (small : s .effort .counters .errors .0 ≤ 15) where
   failed-exhausted : (code : ℕ) → exhausted (advance (Failed code) (s .effort)) ≡ ltb (s .effort .setting) (s .effort .counters .errors .0 + 1)
-  unfolding exhausted advance withProgress errorSpent
+  unfolding exhausted advance errorSpent
   failed-exhausted code = ap (λ (x : ℕ). ltb (s .effort .setting) x) (more-errors (s .effort) small)
 
   failed-ending : (code : ℕ) → isExhausted (endingOf (Failed code) (serviceJudged (Failed code) s)) ≡ exhausted (advance (Failed code) (s .effort))
-  unfolding endingOf serviceJudged withEffort stopped isExhausted advance withProgress atStage betweenAttempts isBetween
+  unfolding endingOf serviceJudged stopped isExhausted advance atStage betweenAttempts isBetween
   failed-ending code = go (exhausted (advance (Failed code) (s .effort))) (s .abort) (s .rear)
     where
       go : (a b d : Bool) → isExhausted (pick a Exhausted (pick b Aborted (pick d Rearbitrated Going))) ≡ a
@@ -515,14 +510,14 @@ module _ (s : Service) (few : s .effort .counters .errors .0 ≤ s .effort .sett
       go false false false = refl
 
   lost-not : isExhausted (endingOf Lost (serviceJudged Lost s)) ≡ false
-  unfolding endingOf serviceJudged withEffort advance withProgress lostSpent
+  unfolding endingOf serviceJudged advance lostSpent slotSpent
   lost-not = stopped-exhausted (serviceJudged Lost s) (few-errors (serviceJudged Lost s .effort) few)
 
   last-sound : {w : Verdict} → Judged (s .effort) w → isExhausted (endingOf w (serviceJudged w s)) ≡ true → IsLast (s .effort) w
   last-sound unjudged h =
-      clash {b = isExhausted (endingOf Unjudged (serviceJudged Unjudged s))} (unfold endingOf serviceJudged withEffort advance in stopped-exhausted s (few-errors (s .effort) few)) h
+      clash {b = isExhausted (endingOf Unjudged (serviceJudged Unjudged s))} (unfold endingOf serviceJudged advance in stopped-exhausted s (few-errors (s .effort) few)) h
   last-sound (goes g) h =
-      clash {b = isExhausted (endingOf Goes (serviceJudged Goes s))} (unfold endingOf serviceJudged withEffort advance withProgress atStage stopped betweenAttempts isBetween isExhausted in refl) h
+      clash {b = isExhausted (endingOf Goes (serviceJudged Goes s))} (unfold endingOf serviceJudged advance atStage stopped betweenAttempts isBetween isExhausted in refl) h
   last-sound lost h = clash lost-not h
   last-sound (failed code g) h =
       let l = ltb-true (s .effort .setting) (s .effort .counters .errors .0 + 1) (sym (failed-exhausted code) ∙ sym (failed-ending code) ∙ h) in
@@ -667,7 +662,7 @@ re-by c =
       only =
           only-by (λ f. f .re) c (Spoils c) (λ x i. not-at-reset x) (λ a v x i d. not-at-reset x)
           (λ f v e. unfold cleared in unless-false (f .re) (eqb (v / 4 % 2) 1) e)
-          (λ a v f. ended-same (λ f. f .re) (λ f. unfold raiseTok in refl) (λ f. unfold raiseTe in refl) (stopped (serviceAsked (c .core .service) a v)) f)
+          (λ a v f. ended-same (λ f. f .re) (λ f. refl) (λ f. refl) (stopped (serviceAsked (c .core .service) a v)) f)
           (spoils-slot c);
     }
 
@@ -717,7 +712,7 @@ rok-by c =
       only =
           only-by (λ f. f .rok) c (Stores true c) (λ x i. not-at-reset x) (λ a v x i d. not-at-reset x)
           (λ f v e. unfold cleared in unless-false (f .rok) (eqb (v / 2 % 2) 1) e)
-          (λ a v f. ended-same (λ f. f .rok) (λ f. unfold raiseTok in refl) (λ f. unfold raiseTe in refl) (stopped (serviceAsked (c .core .service) a v)) f)
+          (λ a v f. ended-same (λ f. f .rok) (λ f. refl) (λ f. refl) (stopped (serviceAsked (c .core .service) a v)) f)
           (λ l s e h.
           let b = both-true (isStored (deliveryIn c (sampleOf c l))) (rak c) (passed (both (isStored (deliveryIn c (sampleOf c l))) (rak c)) e (sym (slot-rok c (sampleOf c l)) ∙ h)) in
           stored-slot c l true (b .1) s (b .0));
@@ -731,7 +726,7 @@ rnok-by c =
       only =
           only-by (λ f. f .rnok) c (Stores false c) (λ x i. not-at-reset x) (λ a v x i d. not-at-reset x)
           (λ f v e. unfold cleared in unless-false (f .rnok) (eqb (v % 2) 1) e)
-          (λ a v f. ended-same (λ f. f .rnok) (λ f. unfold raiseTok in refl) (λ f. unfold raiseTe in refl) (stopped (serviceAsked (c .core .service) a v)) f)
+          (λ a v f. ended-same (λ f. f .rnok) (λ f. refl) (λ f. refl) (stopped (serviceAsked (c .core .service) a v)) f)
           (λ l s e h.
           let b = both-true (isStored (deliveryIn c (sampleOf c l))) (not (rak c)) (passed (both (isStored (deliveryIn c (sampleOf c l))) (not (rak c))) e (sym (slot-rnok c (sampleOf c l)) ∙ h)) in
           stored-slot c l false (not-true (rak c) (b .1)) s (b .0));

@@ -21,9 +21,9 @@ use Rattle.rules.specs.Definitions.Mailbox.{coded, markedCher, markedCht
 use Rattle.rules.specs.Definitions.Reception.{quiet, atPlace, underWay, isUnderWay, behind, commandEnded, winnerTaken}
 use Rattle.rules.specs.Definitions.Hearing.{receptionAfter}
 use Rattle.rules.specs.Definitions.Delivery.{deliveryOf, memoryDelivered}
-use Rattle.rules.specs.Definitions.Attempt.{atStage, inService, isServing, betweenAttempts, isBetween, waits, isWaiting, drivesFrame, isDriving, levelAt, judge, withProgress, advance}
-use Rattle.rules.specs.Definitions.Service.{roleOf, resting, withEffort, stopped, endingOf, settled, memoryEnded, started, abortAsked, rearAsked, aborts, hearOwn}
-use Rattle.rules.specs.Definitions.State.{isActive, serving, withService, resetCore, idled, idleDue, slept}
+use Rattle.rules.specs.Definitions.Attempt.{atStage, inService, isServing, betweenAttempts, isBetween, waits, isWaiting, drivesFrame, isDriving, levelAt, judge, advance}
+use Rattle.rules.specs.Definitions.Service.{roleOf, resting, stopped, endingOf, settled, memoryEnded, started, abortAsked, rearAsked, aborts, hearOwn}
+use Rattle.rules.specs.Definitions.State.{isActive, serving, resetCore, idled, idleDue, slept}
 use Rattle.rules.specs.Definitions.Slots.{heardAs, heard, delivers, serviceJudged, ending, receptionJudged, memoryJudged, coreJudged, chooses, choiceMade, startMade, followsOn, drivesAs, drives, sampleOf, judgedSlot, sampledSlot, activeSlot}
 use Rattle.rules.specs.Definitions.Host.{resetAll, resets, sleeps, rearCommanded, coreWritten, serviceAsked, byteWritten, written}
 use Rattle.rules.specs.Definitions.Run.{fresh, answered, restedSlot, next, after}
@@ -211,7 +211,7 @@ own-over c v d x =
 -- ---- and till then the attempt goes on
 
 going-stage : (s : Service) → settled (endingOf Goes (serviceJudged Goes s)) (serviceJudged Goes s) ≡ serviceJudged Goes s
-unfolding settled endingOf serviceJudged withEffort advance withProgress atStage stopped betweenAttempts isBetween
+unfolding settled endingOf serviceJudged advance atStage stopped betweenAttempts isBetween
 going-stage s = refl
 
 -- choice and start leave a service with an attempt under way
@@ -233,7 +233,7 @@ module _ (m : List ℕ) (k : Core) (e : k .service .effort .progress .stage ≡ 
   not-started = rw e
 
   started-on : startMade m k .service ≡ k .service
-  unfolding startMade withService
+  unfolding startMade
   started-on = not-started
 
 follows-on : (m : List ℕ) (k : Core) → k .service .effort .progress .stage ≡ Sending → followsOn m k .service ≡ k .service
@@ -244,7 +244,7 @@ follows-on m k e =
 
 judged-on : (m : List ℕ) (k : Core) (h : Hearing) (v : ℕ) → coreJudged m k Goes h v .service .effort .progress .stage ≡ Sending
 unfolding coreJudged ending
-judged-on m k h v = ap (λ (s : Service). s .effort .progress .stage) (going-stage (k .service)) ∙ (unfold serviceJudged withEffort advance withProgress atStage in refl)
+judged-on m k h v = ap (λ (s : Service). s .effort .progress .stage) (going-stage (k .service)) ∙ (unfold serviceJudged advance atStage in refl)
 
 sampled-on : (c : Controller) (v : ℕ) → judge (c .core .service .effort) v ≡ Goes → sampledSlot c v .core .service .effort .progress .stage ≡ Sending
 unfolding sampledSlot judgedSlot

@@ -10,11 +10,11 @@ use lib.Dec.{eqb, ltb}
 use lib.ListN.{getD, set}
 use Rattle.line.specs.Bits.{Below}
 use Rattle.line.proofs.Laws.{picked}
+use Rattle.rules.specs.Definitions.Setters.{withActivity, withReport, withService}
 use Rattle.rules.specs.Definitions.Registers.{command, readOnly, reserved, fixedBits, interruptReset, transmitControl, autonomous, writeOnly, asksIdle, asksActivation, asksRearbitration, resetReport}
 use Rattle.rules.specs.Definitions.Reception.{unsettled}
-use Rattle.rules.specs.Definitions.Delivery.{withFlags}
 use Rattle.rules.specs.Definitions.Service.{roleOf, stopped, choose, aborts, abortAsked, rearAsked}
-use Rattle.rules.specs.Definitions.State.{inRange, isActive, isAsleep, serving, inMode, withActivity, withReport, withService, resetCore, idled, idleDue, slept, idleAsked, activated}
+use Rattle.rules.specs.Definitions.State.{inRange, isActive, isAsleep, serving, inMode, resetCore, idled, idleDue, slept, idleAsked, activated}
 use Rattle.rules.specs.Definitions.Slots.{longest, heardAs, heard, delivers, serviceJudged, ending, reportAfter, memoryJudged, coreJudged, chooses, choiceMade, startMade, followsOn, sampleOf, judgedSlot, sampledSlot, activeSlot}
 use Rattle.rules.specs.Definitions.Host.{resetAll, resets, sleeps, modeCommanded, rearCommanded, keptByte, flagsCleared, coreWritten, serviceAsked, stoppedCore, byteWritten, written, byteRead, accessRefused, writeRefused, readRefused}
 use Rattle.rules.specs.Definitions.Run.{fresh, refuse, accept, pinReset, hostWrite, hostRead, answered, restedSlot, slot, step, next, after}
@@ -104,15 +104,12 @@ judged-kept b k w {h} v f j i =
 -- ---- what follows: idle, choice, start
 
 report-kept : (k : Core) (x : Report) → Kept k → ReportLimits x → Kept (withReport k x)
-unfolding withReport
 report-kept k x f l = record { report = l; line = f .line; reception = f .reception; service = f .service }
 
 service-kept : (k : Core) (s : Service) → Kept k → Served s → Kept (withService k s)
-unfolding withService
 service-kept k s f g = record { report = f .report; line = f .line; reception = f .reception; service = g }
 
 activity-kept : (k : Core) (a : Activity) → Kept k → Kept (withActivity k a)
-unfolding withActivity
 activity-kept k a f = record { report = f .report; line = f .line; reception = f .reception; service = f .service }
 
 idled-kept : (k : Core) → Kept k → Kept (idled k)
@@ -190,7 +187,7 @@ mode-kept k v f =
     (λ e. picked Kept (asksActivation v) (activated k) k (λ d. activated-kept k f) (λ d. f))
 
 cleared-kept : (k : Core) (v : ℕ) → Kept k → Kept (flagsCleared k v)
-unfolding flagsCleared withFlags
+unfolding flagsCleared
 cleared-kept k v f = let l = f .report in report-kept k _ f (record { sending = l .sending; message = l .message; error = l .error })
 
 written-kept : (k : Core) (address v : ℕ) → Kept k → Kept (coreWritten k address v)

@@ -17,7 +17,7 @@ use Rattle.rules.proofs.Ranges.Limits.{ReceptionLimits, ReportLimits}
 use Rattle.rules.proofs.Receiving.Rows.{nibble-below}
 use Rattle.rules.proofs.Ranges.Bytes.{at-below, zeros-below, stored-below, retagged-below, cher-below, chrx-below, nobody-limits, winner-limits}
 use Rattle.rules.specs.Definitions.Hearing.{lineAfter, receptionAfter, whole, replyRequest, checkReceived, checkDue, mostNibbles, hearEndOfData, hearSecondHalf, hearBody, hearStart, acknowledges, acknowledgeWrong, hearAcknowledge, hearEnd, hearIn, hearFrame, hearQuiet}
-use Rattle.rules.specs.Definitions.Delivery.{memoryStored, memoryDelivered, withError, withFlags, withMessage, withReceiveError, reportStored, reportHeard, reportDelivered}
+use Rattle.rules.specs.Definitions.Delivery.{memoryStored, memoryDelivered, receiveError, reportStored, reportHeard, reportDelivered}
 use Rattle.rules.specs.Definitions.Slots.{receptionJudged}
 use Rattle.rules.specs.declared.Report.{Report}
 use Rattle.rules.specs.declared.Line.{Line}
@@ -186,14 +186,14 @@ quiet-heard l v = picked Heard (eqb v 0) _ Silent (λ e. picked Heard (takesStar
 -- ---- the registers
 
 pub heard-report : {h : Hearing} → Heard h → (x : Report) → ReportLimits x → ReportLimits (reportHeard h x)
-unfolding reportHeard withError
+unfolding reportHeard
 heard-report silent x l = l
 heard-report follows x l = l
 heard-report (fault code h) x l = record { sending = l .sending; message = l .message; error = h }
 heard-report good x l = l
 
 pub delivered-report : (d : Delivery) (x : Report) (r : Reception) → ReportLimits x → Received r → ReportLimits (reportDelivered d x r)
-unfolding reportDelivered reportStored withReceiveError withError withFlags withMessage
+unfolding reportDelivered reportStored receiveError
 delivered-report Nothing x r l f = l
 delivered-report Stored x r l f =
     record { sending = l .sending; message = record { count = omega arith; channel = f .limits .winner .channel }; error = l .error }

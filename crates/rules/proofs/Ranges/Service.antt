@@ -19,9 +19,8 @@ use Rattle.line.specs.declared.Half.the-variants.{Plain, First, Second}
 use Rattle.rules.specs.Definitions.Registers.{both, CV, ACKE, FCSE}
 use Rattle.rules.specs.Definitions.Mailbox.{coded}
 use Rattle.rules.specs.Definitions.Reception.{free, underWay, startEnded}
-use Rattle.rules.specs.Definitions.Delivery.{withFlags, withMessage, withSending}
-use Rattle.rules.specs.Definitions.Attempt.{noCounts, atStage, isBetween, betweenAttempts, waits, drivesFrame, levelAt, due, overdriven, violated, recessiveLost, difference, judgeSlot, judge, withProgress, slotSpent, lostSpent, errorSpent, advance, exhausted}
-use Rattle.rules.specs.Definitions.Service.{resting, withEffort, stopped, endingOf, settled, memoryEnded, retriesOf, reportSending, reportJudged, reportEnded, chosen, choiceOf, choose, opened, started, abortAsked, rearAsked, hearOwn}
+use Rattle.rules.specs.Definitions.Attempt.{noCounts, atStage, isBetween, betweenAttempts, waits, drivesFrame, levelAt, due, overdriven, violated, recessiveLost, difference, judgeSlot, judge, slotSpent, lostSpent, errorSpent, advance, exhausted}
+use Rattle.rules.specs.Definitions.Service.{resting, stopped, endingOf, settled, memoryEnded, retriesOf, reportSending, reportJudged, reportEnded, chosen, choiceOf, choose, opened, started, abortAsked, rearAsked, hearOwn}
 use Rattle.rules.proofs.Ranges.Limits.{ServiceLimits, RetriesLimits, ReportLimits}
 use Rattle.rules.proofs.Ranges.Bytes.{fits-sent, setting-small, cher-below, chtx-below, Named, nothing, channel, ready-named}
 use Rattle.rules.proofs.Ranges.Reception.{Heard, silent, follows, fault, good}
@@ -128,7 +127,7 @@ served-spent s f =
     record { channel = l .channel; n = l .effort .n; at = l .effort .at; setting = l .effort .setting; over = λ e. f .retries }
 
 pub judged-spent : {w : Verdict} (s : Service) → Judged (s .effort) w → Served s → Spent (serviceJudged w s)
-unfolding serviceJudged withEffort advance withProgress slotSpent lostSpent errorSpent atStage size betweenAttempts isBetween
+unfolding serviceJudged advance slotSpent lostSpent errorSpent atStage size betweenAttempts isBetween
 judged-spent s unjudged f = served-spent s f
 judged-spent s (goes h) f =
     let l = f .limits in
@@ -202,7 +201,7 @@ retries-limits s f =
     }
 
 pub sending-report : (x : Report) (s : Service) → ReportLimits x → Spent s → ReportLimits (reportSending x s)
-unfolding reportSending withSending
+unfolding reportSending
 sending-report x s l f = record { sending = retries-limits s f; message = l .message; error = l .error }
 
 pub judged-report : (w : Verdict) (x : Report) (s : Service) → ReportLimits x → Spent s → ReportLimits (reportJudged w x s)
@@ -214,7 +213,7 @@ judged-report (Failed code) x s l f = sending-report x s l f
 judged-report Done x s l f = l
 
 pub ended-report : (y : Ending) (x : Report) (s : Service) → ReportLimits x → Spent s → ReportLimits (reportEnded y x s)
-unfolding reportEnded withFlags withMessage
+unfolding reportEnded
 ended-report Going x s l f = l
 ended-report Sent x s l f = record { sending = l .sending; message = retries-limits s f; error = l .error }
 ended-report Exhausted x s l f = record { sending = l .sending; message = retries-limits s f; error = l .error }
@@ -224,7 +223,7 @@ ended-report Rearbitrated x s l f = l
 -- ---- choice and start
 
 chosen-served : {m : List ℕ} → Below 256 m → (c : ℕ) → c ≤ 13 → Served (chosen m c)
-unfolding chosen coded atStage noCounts
+unfolding chosen resting coded atStage noCounts
 chosen-served {m} b c h =
     record {
       limits = record { channel = h; effort = record { n = fits-sent m c b .size; at = omega arith; errors = omega arith; setting = setting-small m b } };
@@ -241,7 +240,7 @@ unfolding choose
 choose-served {m} b longest = choice-served b (ready-named m longest)
 
 opened-served : (s : Service) (k : ℕ) → k ≤ 359 → Served s → Served (opened s k)
-unfolding opened withEffort withProgress atStage
+unfolding opened atStage
 opened-served s k h f =
     let l = f .limits in
     record {

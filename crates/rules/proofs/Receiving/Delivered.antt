@@ -12,6 +12,7 @@ use Rattle.line.specs.Bits.{pick, bits}
 use Rattle.line.specs.LineCode.{lineCode}
 use Rattle.line.specs.Frame.{Frame, Fits, slots, size}
 use Rattle.line.proofs.Laws.{bits-length, code-length, slots-length, picked}
+use Rattle.rules.specs.Definitions.Setters.{withReport, withService}
 use Rattle.rules.specs.Definitions.Channels.{base}
 use Rattle.rules.specs.Definitions.Mailbox.{stored, markedCher, markedChtx}
 use Rattle.rules.specs.Definitions.Reception.{atPlace, isUnderWay, takesStart, underWay, commandEnded, begun, moved, entered, bitTaken, bitsLaid, dataEnded, nibbleTaken, followStart, followBody, followIn, followed, winnerTaken, followAcknowledge, followEnd}
@@ -20,10 +21,10 @@ use Rattle.rules.specs.Statements.Valid.{high, low, owes, Valid}
 use Rattle.rules.proofs.Receiving.Invariant.{InBody, InAcknowledge, InvariantIn, Invariant, Whole}
 use Rattle.rules.proofs.Receiving.InvariantFrames.{start-long, acknowledge-long, end-long, closing, closing-length, body-opens, acknowledge-same, end-same}
 use Rattle.rules.proofs.Receiving.InvariantLaws.{invariant-silent, invariant-header, invariant-good, invariant-last, invariant-fault, invariant-acknowledges}
-use Rattle.rules.specs.Definitions.Delivery.{deliveryTo, delivered, deliveryOf, memoryStored, memoryDelivered, reportHeard, reportDelivered, reportStored, withError, withFlags, withMessage, withSending, withReceiveError}
+use Rattle.rules.specs.Definitions.Delivery.{deliveryTo, delivered, deliveryOf, memoryStored, memoryDelivered, reportHeard, reportDelivered, reportStored, receiveError}
 use Rattle.rules.specs.Definitions.Attempt.{drivesFrame, judgeSlot, judge, advance}
-use Rattle.rules.specs.Definitions.Service.{roleOf, withEffort, stopped, endingOf, memoryEnded, reportJudged, reportEnded, reportSending, choose}
-use Rattle.rules.specs.Definitions.State.{isActive, inMode, serving, resetCore, idled, idleDue, withReport, withService}
+use Rattle.rules.specs.Definitions.Service.{roleOf, stopped, endingOf, memoryEnded, reportJudged, reportEnded, reportSending, choose}
+use Rattle.rules.specs.Definitions.State.{isActive, inMode, serving, resetCore, idled, idleDue}
 use Rattle.rules.specs.Definitions.Registers.{BOV}
 use Rattle.rules.specs.declared.Report.{Report}
 use Rattle.rules.specs.Definitions.Slots.{longest, heardAs, heard, serviceJudged, receptionJudged, delivers, ending, reportAfter, memoryJudged, coreJudged, chooses, choiceMade, startMade, followsOn, drivesAs, drives, sampleOf, judgedSlot, sampledSlot, activeSlot}
@@ -104,7 +105,7 @@ module _ (r : Reception) (l : Log) (w : Following r l) where
 -- ---- the memory map
 
 unjudged-memory : (m : List ℕ) (k : Core) (h : Hearing) → stopped (k .service) ≡ Going → memoryJudged m k Unjudged h ≡ memoryDelivered (deliveryOf h (k .reception)) m (k .reception)
-unfolding memoryJudged ending endingOf serviceJudged withEffort advance delivers
+unfolding memoryJudged ending endingOf serviceJudged advance delivers
 unjudged-memory m k h g = rw g (unfold memoryEnded in refl)
 
 -- what a good frame does to it
@@ -124,12 +125,12 @@ unfolding deliveryOf deliveryTo delivered fits errorAfter reportHeard
 good-error x r w = rw (w .count-is) (go (r .winner .matched) (ltb (length (w .frame .bytes)) (r .winner .length)))
   where
     go : (a b : Bool) → reportDelivered (pick a (pick b effect.Stored effect.Overflowed) effect.Nothing) x r .error ≡ pick a (pick b (x .error) BOV) (x .error)
-    go true true = unfold reportDelivered reportStored withFlags withMessage in refl
-    go true false = unfold reportDelivered withReceiveError withError withFlags in refl
+    go true true = unfold reportDelivered reportStored in refl
+    go true false = unfold reportDelivered receiveError in refl
     go false b = unfold reportDelivered in refl
 
 unjudged-error : (k : Core) (h : Hearing) → stopped (k .service) ≡ Going → reportAfter k Unjudged h .error ≡ reportDelivered (deliveryOf h (k .reception)) (reportHeard h (k .report)) (k .reception) .error
-unfolding reportAfter ending endingOf serviceJudged withEffort advance delivers reportJudged
+unfolding reportAfter ending endingOf serviceJudged advance delivers reportJudged
 unjudged-error k h g = rw g (unfold reportEnded in refl)
 
 -- idle, choice and start leave 0x07
@@ -140,13 +141,13 @@ idle-error k =
     (λ e. picked (λ (x : Core). x .report .error ≡ k .report .error) (serving (k .service)) k (idled k) (λ d. refl) (λ d. refl)) (λ e. refl)
 
 choice-error : (m : List ℕ) (k : Core) → choiceMade m k .report .error ≡ k .report .error
-unfolding choiceMade withService withReport reportSending withSending
+unfolding choiceMade reportSending
 choice-error m k =
     picked (λ (x : Core). x .report .error ≡ k .report .error) (chooses k) (pick (serving (choose m longest)) (withService (withReport k (reportSending (k .report) (choose m longest))) (choose m longest)) k) k
     (λ e. picked (λ (x : Core). x .report .error ≡ k .report .error) (serving (choose m longest)) (withService (withReport k (reportSending (k .report) (choose m longest))) (choose m longest)) k (λ d. refl) (λ d. refl)) (λ e. refl)
 
 follows-error : (m : List ℕ) (k : Core) → followsOn m k .report .error ≡ k .report .error
-unfolding followsOn startMade withService
+unfolding followsOn startMade
 follows-error m k = choice-error m (idleDue k) ∙ idle-error k
 
 -- the mailbox stands behind the channels

@@ -16,8 +16,8 @@ use Rattle.rules.specs.Definitions.Reception.{atPlace, quiet, isUnderWay
 use Rattle.rules.specs.Definitions.Hearing.{receptionAfter, hearFrame, hearQuiet}
 use Rattle.rules.proofs.Receiving.Invariant.{Invariant}
 use Rattle.rules.proofs.Receiving.InvariantLaws.{invariant-begun, invariant-under-way, invariant-winner, invariant-command, invariant-named, invariant-kept, invariant-step, invariant-silent}
-use Rattle.rules.specs.Definitions.Attempt.{atStage, betweenAttempts, isBetween, drivesFrame, isDriving, levelAt, due, judgeSlot, judge, withProgress, advance}
-use Rattle.rules.specs.Definitions.Service.{roleOf, resting, withEffort, stopped, endingOf, settled, hearOwn}
+use Rattle.rules.specs.Definitions.Attempt.{atStage, betweenAttempts, isBetween, drivesFrame, isDriving, levelAt, due, judgeSlot, judge, advance}
+use Rattle.rules.specs.Definitions.Service.{roleOf, resting, stopped, endingOf, settled, hearOwn}
 use Rattle.rules.specs.Definitions.Slots.{heardAs, heard, serviceJudged, receptionJudged}
 use Rattle.rules.specs.Statements.Receiving.{Log, noLog, sampledLog}
 use Rattle.rules.proofs.Receiving.OwnAttempt.{Judged, Own, Placed, done, due-level, failed, goes, inStart, level-start, lost, lost-follows, own-follows, own-small, placed-judged, placed-next, slot-judged}
@@ -188,7 +188,7 @@ module _ (s : Service) (r : Reception) (l : Log) (v : ℕ) (m : List ℕ) where
   follows-after w d small f h = record { going = after-going w s; stage = receiving d (following-next r l f v small h m) }
 
   unjudged-apart : drivesFrame (s .effort .progress) ≡ false → drivesFrame (settledAfter Unjudged s .effort .progress) ≡ false
-  unfolding settledAfter serviceJudged withEffort advance
+  unfolding settledAfter serviceJudged advance
   unjudged-apart d = settled-apart (endingOf Unjudged s) s d
 
   -- another module's frame
@@ -228,14 +228,14 @@ module _ (s : Service) (r : Reception) (l : Log) (v : ℕ) (m : List ℕ) where
   gone a = record { going = after-going Goes s; stage = rw gone-effort a }
     where
       gone-effort : settledAfter Goes s .effort ≡ advance Goes (s .effort)
-      gone-effort = unfold settledAfter endingOf stopped serviceJudged withEffort advance withProgress atStage betweenAttempts isBetween settled in refl
+      gone-effort = unfold settledAfter endingOf stopped serviceJudged advance atStage betweenAttempts isBetween settled in refl
 
   gone-driving : Following (receptionJudged m Follows r v) (sampledLog l v m) → Placed (s .effort .frame) (s .effort .progress .at + 1) (receptionJudged m Follows r v)
       → s .effort .progress .at + 1 ≤ 30 + 10 * s .effort .frame .n → After Goes Follows
-  gone-driving f p h = gone (unfold advance withProgress atStage drivesFrame isDriving in driving refl f p h)
+  gone-driving f p h = gone (unfold advance atStage drivesFrame isDriving in driving refl f p h)
 
   closing-goes : 30 + 10 * s .effort .frame .n < s .effort .progress .at + 1 → After Goes Follows
-  closing-goes h = gone (unfold advance withProgress atStage drivesFrame isDriving betweenAttempts isBetween in closing refl refl h)
+  closing-goes h = gone (unfold advance atStage drivesFrame isDriving betweenAttempts isBetween in closing refl refl h)
 
   placed-begun : (x : Coded) → underWay (r .place) ≡ false → Placed x (0 + 1) (receptionJudged m Follows r v)
   placed-begun x u = rw (begun-judged u) (unfold begun quiet atPlace in inStart refl refl (omega arith) refl)
@@ -265,15 +265,15 @@ module _ (s : Service) (r : Reception) (l : Log) (v : ℕ) (m : List ℕ) where
   -- or the attempt is lost, fails or ends
   lost-apart : drivesFrame (settledAfter Lost s .effort .progress) ≡ false
   unfolding settledAfter
-  lost-apart = settled-apart (endingOf Lost (serviceJudged Lost s)) (serviceJudged Lost s) (unfold serviceJudged withEffort advance withProgress atStage drivesFrame isDriving in refl)
+  lost-apart = settled-apart (endingOf Lost (serviceJudged Lost s)) (serviceJudged Lost s) (unfold serviceJudged advance atStage drivesFrame isDriving in refl)
 
   failed-apart : (code : ℕ) → drivesFrame (settledAfter (Failed code) s .effort .progress) ≡ false
   unfolding settledAfter
-  failed-apart code = settled-apart (endingOf (Failed code) (serviceJudged (Failed code) s)) (serviceJudged (Failed code) s) (unfold serviceJudged withEffort advance withProgress atStage drivesFrame isDriving in refl)
+  failed-apart code = settled-apart (endingOf (Failed code) (serviceJudged (Failed code) s)) (serviceJudged (Failed code) s) (unfold serviceJudged advance atStage drivesFrame isDriving in refl)
 
   done-apart : drivesFrame (settledAfter Done s .effort .progress) ≡ false
   unfolding settledAfter
-  done-apart = settled-apart (endingOf Done (serviceJudged Done s)) (serviceJudged Done s) (unfold serviceJudged withEffort advance withProgress atStage drivesFrame isDriving in refl)
+  done-apart = settled-apart (endingOf Done (serviceJudged Done s)) (serviceJudged Done s) (unfold serviceJudged advance atStage drivesFrame isDriving in refl)
 
   opening-after : s .effort .progress .at ≡ 0 → underWay (r .place) ≡ false → l ≡ noLog
       → {w : Verdict} → Judged (s .effort .frame) (s .effort .progress .at) v w → After w (hearOwn w)

@@ -11,13 +11,14 @@ use lib.ListN.{getD}
 use Rattle.line.specs.Bits.{pick}
 use Rattle.line.specs.Frame.{Fits}
 use Rattle.line.proofs.Laws.{picked}
+use Rattle.rules.specs.Definitions.Setters.{withActivity, withReport, withService}
 use Rattle.rules.specs.Definitions.Registers.{both, lineControl, diagnosisControl, command, interruptReset, transmitControl, retrySetting, autonomous, asksIdle, asksActivation, asksRearbitration, inputLevel, inverted, sampled, selectedInput, invertsReceive}
 use Rattle.rules.specs.Definitions.Channels.{lowestReady}
 use Rattle.rules.specs.Definitions.Reception.{atPlace, quiet, isUnderWay, underWay, behind, inBody, isBody, free, startEnded}
 use Rattle.rules.proofs.Receiving.InvariantLaws.{invariant-under-way}
-use Rattle.rules.specs.Definitions.Attempt.{atStage, betweenAttempts, isBetween, drivesFrame, isDriving, judge, withProgress, noCounts, inService, isServing, waits, isWaiting, exhausted}
-use Rattle.rules.specs.Definitions.Service.{resting, withEffort, stopped, settled, reportSending, reportEnded, chosen, choiceOf, choose, opened, started, abortAsked, rearAsked, aborts}
-use Rattle.rules.specs.Definitions.State.{isActive, inMode, serving, withActivity, withReport, withService, resetCore, idled, idleDue, slept, idleAsked, activated}
+use Rattle.rules.specs.Definitions.Attempt.{atStage, betweenAttempts, isBetween, drivesFrame, isDriving, judge, noCounts, inService, isServing, waits, isWaiting, exhausted}
+use Rattle.rules.specs.Definitions.Service.{resting, stopped, settled, reportSending, reportEnded, chosen, choiceOf, choose, opened, started, abortAsked, rearAsked, aborts}
+use Rattle.rules.specs.Definitions.State.{isActive, inMode, serving, resetCore, idled, idleDue, slept, idleAsked, activated}
 use Rattle.rules.specs.Definitions.Slots.{longest, heard, ending, memoryJudged, coreJudged, chooses, choiceMade, startMade, followsOn, sampleOf, judgedSlot, sampledSlot, activeSlot}
 use Rattle.rules.specs.Definitions.Host.{resetAll, resets, sleeps, modeCommanded, rearCommanded, flagsCleared, coreWritten, serviceAsked, stoppedCore, byteWritten, written}
 use Rattle.rules.specs.Definitions.Run.{accept, answered, restedSlot, step, next}
@@ -84,7 +85,7 @@ chosen-apart m (Lowest c) = unfold chosen atStage drivesFrame isDriving in refl
 chosen-going : (m : List ℕ) (x : Choice) → stopped (choiceOf m x) ≡ Going
 unfolding choiceOf
 chosen-going m Nothing = resting-going
-chosen-going m (Lowest c) = unfold chosen atStage stopped betweenAttempts isBetween exhausted noCounts in rw (le-ltb (retrySetting (getD m transmitControl 0)) 0 (omega arith))
+chosen-going m (Lowest c) = unfold chosen resting atStage stopped betweenAttempts isBetween exhausted noCounts in rw (le-ltb (retrySetting (getD m transmitControl 0)) 0 (omega arith))
 
 free-to-choose : (a b u : Bool) → pick a (pick b false (pick u false true)) false ≡ true → u ≡ false
 free-to-choose true true u e = absurd (false≢true e)
@@ -93,7 +94,7 @@ free-to-choose true false false e = refl
 free-to-choose false b u e = absurd (false≢true e)
 
 chosen-stands : (l : Log) (m : List ℕ) (k : Core) (x : Report) → underWay (k .reception .place) ≡ false → StandsIn l (withService (withReport k x) (choose m longest))
-unfolding withService withReport choose
+unfolding choose
 chosen-stands l m k x u = record { going = chosen-going m (lowestReady m longest); stage = apart (chosen-apart m (lowestReady m longest)) u }
 
 chooses-quiet : (k : Core) → chooses k ≡ true → underWay (k .reception .place) ≡ false
@@ -124,7 +125,7 @@ waits-apart Opening e d = absurd (false≢true e)
 waits-apart Sending e d = absurd (false≢true e)
 
 opened-going : (s : Service) (at : ℕ) → waits (s .effort .progress) ≡ true → stopped (opened s at) ≡ stopped s
-unfolding stopped opened withEffort withProgress atStage betweenAttempts exhausted waits
+unfolding stopped opened atStage betweenAttempts exhausted waits
 opened-going s at e = rw (waits-between (s .effort .progress .stage) e) (unfold isBetween in refl)
 
 body-is : (p : Phase) → isBody p ≡ true → p ≡ Body
@@ -166,13 +167,13 @@ module _ (l : Log) (s : Service) (r : Reception) (a : Stands s r l) (w : waits (
 
       go : At (s .effort) r l → At (opened s 10 .effort) r l
       go (apart d u) = absurd (false≢true (sym u ∙ start-under-way r e))
-      go (receiving d f) = unfold opened withEffort withProgress atStage in driving (unfold drivesFrame isDriving in refl) f placed (omega arith)
+      go (receiving d f) = unfold opened atStage in driving (unfold drivesFrame isDriving in refl) f placed (omega arith)
       go (starting d z u) = absurd (driven d)
       go (driving d f p h) = absurd (driven d)
       go (closing d b h) = absurd (driven d)
 
   opens : underWay (r .place) ≡ false → Stands (opened s 0) r l
-  opens u = record { going = opened-going s 0 w ∙ a .going; stage = unfold opened withEffort withProgress atStage in starting (unfold drivesFrame isDriving in refl) refl u }
+  opens u = record { going = opened-going s 0 w ∙ a .going; stage = unfold opened atStage in starting (unfold drivesFrame isDriving in refl) refl u }
 
 started-stands : (l : Log) (s : Service) (autonomous : Bool) (line : Line) (r : Reception) → Stands s r l → Stands (started s autonomous line r) r l
 unfolding started
@@ -187,7 +188,7 @@ started-stands l s autonomous line r a =
     P x = Stands x r l
 
 follows-stands : (l : Log) (m : List ℕ) (k : Core) → StandsIn l k → StandsIn l (followsOn m k)
-unfolding followsOn startMade withService
+unfolding followsOn startMade
 follows-stands l m k a = started-stands l _ _ _ _ (choice-stands l m (idleDue k) (idle-stands l k a))
 
 -- ---- a host write
@@ -238,9 +239,9 @@ written-reception : (k : Core) (a v : ℕ) → coreWritten k a v .reception ≡ 
 unfolding coreWritten modeCommanded idleAsked activated
 written-reception k a v =
     picked P (eqb a command) _ _
-    (λ e. picked P (asksIdle v) _ _ (λ d. picked P (isActive (k .activity .mode)) (withActivity k (inMode Active true)) k (λ i. unfold withActivity in refl) (λ i. refl))
-    (λ d. picked P (asksActivation v) _ k (λ i. picked P (isActive (k .activity .mode)) (withActivity k (inMode Active false)) _ (λ j. unfold withActivity in refl) (λ j. refl)) (λ i. refl)))
-    (λ e. picked P (eqb a interruptReset) (flagsCleared k v) k (λ d. unfold flagsCleared withReport in refl) (λ d. refl))
+    (λ e. picked P (asksIdle v) _ _ (λ d. picked P (isActive (k .activity .mode)) (withActivity k (inMode Active true)) k (λ i. refl) (λ i. refl))
+    (λ d. picked P (asksActivation v) _ k (λ i. picked P (isActive (k .activity .mode)) (withActivity k (inMode Active false)) _ (λ j. refl) (λ j. refl)) (λ i. refl)))
+    (λ e. picked P (eqb a interruptReset) (flagsCleared k v) k (λ d. unfold flagsCleared in refl) (λ d. refl))
   where
     P : Core → Type 0
     P x = x .reception ≡ k .reception
@@ -249,7 +250,7 @@ stopped-stands : (l : Log) (k : Core) (s : Service) → At (s .effort) (k .recep
 unfolding stoppedCore
 stopped-stands l k s a =
     idle-stands l (withService (withReport k (reportEnded (stopped s) (k .report) s)) (settled (stopped s) s))
-    (unfold withService withReport in record { going = settled-going s; stage = settled-at s a (stopped s) refl })
+    (record { going = settled-going s; stage = settled-at s a (stopped s) refl })
 
 byte-stands : (l : Log) (c : Controller) (a v : ℕ) → StandsIn l (c .core) → StandsIn l (byteWritten c a v .core)
 unfolding byteWritten

@@ -24,7 +24,8 @@ use Rattle.rules.specs.declared.Choice.{Choice}
 use Rattle.rules.specs.declared.Choice.the-variants.{Nothing, Lowest}
 use Rattle.rules.specs.declared.Line.{Line}
 use Rattle.rules.specs.declared.Reception.{Reception}
-use Rattle.rules.specs.Statements.Tally.{Stand, away, between, opening, inside, Tally, none, Verdict, goes, contended, failed, sent, dueLevel, openHalf, arbitrated, verdict, tallied, judgedAs, countedIn, countedT, givenUp, endedIn, endedT, chosenT, choiceT, chooseIn, chooseT, standing, startIn, startT, isAway, asking, asks, askedIn, askedT}
+use Rattle.rules.specs.Statements.Tally as tally
+use Rattle.rules.specs.Statements.Tally.{Stand, away, between, opening, inside, Tally, none, Verdict, goes, contended, failed, sent, dueLevel, openHalf, arbitrated, verdict, spentT, judgedAs, countedIn, countedT, givenUp, endedIn, endedT, chosenT, choiceT, chooseIn, chooseT, startIn, startT, isAway, asks, askedIn, askedT}
 use Rattle.rules.proofs.Sending.Join.{isBetweenStand}
 use Rattle.rules.specs.Statements.Sending.{Opens, Origin, own, joined, Drives}
 
@@ -111,10 +112,10 @@ bounded-now t g =
 -- a slot of an attempt in which l slots were spent before
 module _ (t : Tally) (start l : ℕ) (levels : List ℕ) (g : t .errors ≤ t .setting) (spent : t .slots ≤ (t .lost + t .errors) * size (length (t .frame .bytes)) + l) (room : l + 1 ≤ size (length (t .frame .bytes))) where
   pub judged-bounded : (w : Verdict) → Bounded (judgedAs w t start levels)
-  unfolding judgedAs tallied
+  unfolding judgedAs spentT
   judged-bounded goes =
       let s : ℕ = size (length (t .frame .bytes)) in
-      let m : (t .lost + t .errors + 1) * s ≤ (t .lost + 0 + t .setting + 1) * s = mul-le-mul-right s (omega arith) in
+      let m : (t .lost + t .errors + 1) * s ≤ (t .lost + t .setting + 1) * s = mul-le-mul-right s (omega arith) in
       record { errors = omega arith; slots = omega arith }
   judged-bounded contended =
       let s : ℕ = size (length (t .frame .bytes)) in
@@ -122,11 +123,11 @@ module _ (t : Tally) (start l : ℕ) (levels : List ℕ) (g : t .errors ≤ t .s
       record { errors = omega arith; slots = omega arith }
   judged-bounded failed =
       let s : ℕ = size (length (t .frame .bytes)) in
-      let m : (t .lost + t .errors + 1) * s ≤ (t .lost + 0 + t .setting + 1) * s = mul-le-mul-right s (omega arith) in
+      let m : (t .lost + t .errors + 1) * s ≤ (t .lost + t .setting + 1) * s = mul-le-mul-right s (omega arith) in
       record { errors = omega arith; slots = omega arith }
   judged-bounded sent =
       let s : ℕ = size (length (t .frame .bytes)) in
-      let m : (t .lost + t .errors + 1) * s ≤ (t .lost + 0 + t .setting + 1) * s = mul-le-mul-right s (omega arith) in
+      let m : (t .lost + t .errors + 1) * s ≤ (t .lost + t .setting + 1) * s = mul-le-mul-right s (omega arith) in
       record { errors = omega arith; slots = omega arith }
 
 -- ---- between events
@@ -178,7 +179,7 @@ goes-on f k d v e = go (eqb v (dueLevel f k d)) (ltb (k + 1) (size (length (f .b
 module _ (t : Tally) (g : Good t) (serving : isAway (t .stand) ≡ false) (start l : ℕ) (levels : List ℕ) (o : Origin start) (spent : t .slots ≤ (t .lost + t .errors) * size (length (t .frame .bytes)) + l)
     (room : start + l < size (length (t .frame .bytes))) (long : length levels ≡ l + 1) (led : levels ≡ take (length levels) (drop start (slots (t .frame)))) where
   judged-good : (w : Verdict) → (w ≡ goes → start + l + 1 < size (length (t .frame .bytes))) → Good (endedT (judgedAs w t start levels))
-  unfolding judgedAs tallied endedT endedIn
+  unfolding judgedAs spentT endedT endedIn
   judged-good goes h =
       let k = h refl in
       record {
@@ -189,8 +190,8 @@ module _ (t : Tally) (g : Good t) (serving : isAway (t .stand) ≡ false) (start
         fits = λ e. g .fits serving;
       }
   judged-good contended h =
-      kept-good (tallied t between 1 0 1)
-      (λ e. unfold tallied in
+      kept-good (tally.withLost (spentT t between) (t .lost + 1))
+      (λ e. unfold spentT in
       record {
         errors = omega (arith, g .errors);
         setting = g .setting;
@@ -199,10 +200,10 @@ module _ (t : Tally) (g : Good t) (serving : isAway (t .stand) ≡ false) (start
         fits = λ e. g .fits serving;
       })
   judged-good failed h =
-      kept-good (tallied t between 0 1 1)
-      (λ e. unfold tallied in
+      kept-good (tally.withErrors (spentT t between) (t .errors + 1))
+      (λ e. unfold spentT in
       record {
-        errors = ltb-false (t .setting) (t .errors + 1) (unfold tallied in e);
+        errors = ltb-false (t .setting) (t .errors + 1) (unfold spentT in e);
         setting = g .setting;
         spent = unfold taken in omega arith;
         stands = tt;
@@ -251,7 +252,7 @@ chosen-good : (m : List ℕ) → Below 256 m → (x : Choice) → Good (choiceT 
 unfolding choiceT
 chosen-good m b Nothing = good-none
 chosen-good m b (Lowest c) =
-    unfold chosenT taken in
+    unfold chosenT none taken in
     record { errors = omega arith; setting = setting-small m b; spent = omega arith; stands = tt; fits = λ e. (fits-sent m c b, unfold sentFrame in refl) }
 
 choose-good-in : (s : Stand) (t : Tally) (m : List ℕ) (a : Bool) (r : Reception) → Below 256 m → Good t → Good (chooseIn s t m a r)
@@ -261,8 +262,8 @@ choose-good-in between t m a r b g = g
 choose-good-in (opening start) t m a r b g = g
 choose-good-in (inside start levels) t m a r b g = g
 
-opened-good : (t : Tally) (start : ℕ) → Origin start → t .stand ≡ between → Good t → Good (standing t (opening start))
-unfolding standing tallied taken
+opened-good : (t : Tally) (start : ℕ) → Origin start → t .stand ≡ between → Good t → Good (tally.withStand t (opening start))
+unfolding taken
 opened-good t start o e g =
     record {
       errors = omega (arith, g .errors);
@@ -285,8 +286,7 @@ pub after-good : (t : Tally) (m : List ℕ) (a : Bool) (l : Line) (r : Reception
 unfolding startT chooseT
 after-good t m a l r b g = start-good-in (chooseIn (t .stand) t m a r .stand) (chooseIn (t .stand) t m a r) m l r refl (choose-good-in (t .stand) t m a r b g)
 
-asking-good : (t : Tally) (a r : Bool) → Good t → Good (asking t a r)
-unfolding asking
+asking-good : (t : Tally) (a r : Bool) → Good t → Good (tally.withRear (tally.withAbort t a) r)
 asking-good t a r g = record { errors = g .errors; setting = g .setting; spent = g .spent; stands = g .stands; fits = g .fits }
 
 asks-good : (t : Tally) (address v : ℕ) → Good t → Good (asks t address v)

@@ -6,13 +6,14 @@ use mathlib.Core.Path.{_≡_, refl, ap, _∙_, sym}
 use lib.Dec.{eqb}
 use lib.ListN.{getD}
 use Rattle.line.specs.Bits.{pick}
+use Rattle.rules.specs.Definitions.Setters.{withActivity, withReport, withLine, withService}
 use Rattle.rules.specs.Definitions.Registers.{command, interruptReset, transmitControl, autonomous, unless, cleared, asksIdle, asksActivation}
 use Rattle.rules.specs.Definitions.Channels.{lowestReady, acknowledgeAsked}
 use Rattle.rules.specs.Definitions.Reception.{underWay, unsettled}
-use Rattle.rules.specs.Definitions.Delivery.{withError, withFlags, withMessage, withSending, raiseRe, raiseRok, raiseRnok, withReceiveError, reportStored, reportHeard, reportDelivered}
+use Rattle.rules.specs.Definitions.Delivery.{receiveError, reportStored, reportHeard, reportDelivered}
 use Rattle.rules.specs.Definitions.Attempt.{inService, isServing, atStage}
-use Rattle.rules.specs.Definitions.Service.{resting, stopped, settled, reportSending, reportJudged, raiseTe, raiseTok, reportEnded, chosen, choiceOf, choose, started}
-use Rattle.rules.specs.Definitions.State.{isActive, inMode, serving, withActivity, withReport, withService, idled, idleDue, idleAsked, activated}
+use Rattle.rules.specs.Definitions.Service.{resting, stopped, settled, reportSending, reportJudged, reportEnded, chosen, choiceOf, choose, started}
+use Rattle.rules.specs.Definitions.State.{isActive, inMode, serving, idled, idleDue, idleAsked, activated}
 use Rattle.rules.specs.Definitions.Slots.{longest, delivers, serviceJudged, ending, reportAfter, chooses, choiceMade, startMade, followsOn}
 use Rattle.rules.specs.Definitions.Host.{modeCommanded, flagsCleared, coreWritten, stoppedCore}
 use Rattle.rules.specs.Statements.Tally.{Stand, away, between, opening, inside, Tally, choiceT, chooseIn, chooseT, startT}
@@ -64,21 +65,21 @@ module _ (m : List ℕ) (k : Core) where
       (left f (serving (choose m longest)) (withService (withReport k (reportSending (k .report) (choose m longest))) (choose m longest)) k (f k) e refl) refl
 
   pub choice-activity : choiceMade m k .activity ≡ k .activity
-  choice-activity = choice-leaves (λ x. x .activity) (unfold chosenCore withService withReport in refl)
+  choice-activity = choice-leaves (λ x. x .activity) (unfold chosenCore in refl)
 
   pub choice-line : choiceMade m k .line ≡ k .line
-  choice-line = choice-leaves (λ x. x .line) (unfold chosenCore withService withReport in refl)
+  choice-line = choice-leaves (λ x. x .line) (unfold chosenCore in refl)
 
   pub choice-reception : choiceMade m k .reception ≡ k .reception
-  choice-reception = choice-leaves (λ x. x .reception) (unfold chosenCore withService withReport in refl)
+  choice-reception = choice-leaves (λ x. x .reception) (unfold chosenCore in refl)
 
   pub choice-flags : choiceMade m k .report .flags ≡ k .report .flags
-  choice-flags = choice-leaves (λ x. x .report .flags) (unfold chosenCore withService withReport reportSending withSending in refl)
+  choice-flags = choice-leaves (λ x. x .report .flags) (unfold chosenCore reportSending in refl)
 
   choice-of : (x : Choice) → k .service ≡ resting
       → pick (serving (choiceOf m x)) (withService (withReport k (reportSending (k .report) (choiceOf m x))) (choiceOf m x)) k .service ≡ serviceOf (choiceT m x)
   choice-of Nothing e = unfold choiceOf choiceT serving resting inService isServing atStage in (e ∙ unfold choiceOf in choose-is m Nothing)
-  choice-of (Lowest c) e = unfold choiceOf chosen serving inService isServing atStage withService in choose-is m (Lowest c)
+  choice-of (Lowest c) e = unfold choiceOf chosen serving inService isServing atStage in choose-is m (Lowest c)
 
   chooses-as : (b : Bool) → serving (k .service) ≡ b → chooses k ≡ pick (isActive (k .activity .mode)) (pick b false (pick (underWay (k .reception .place)) false true)) false
   unfolding chooses
@@ -130,7 +131,7 @@ isExhausted Aborted = false
 isExhausted Rearbitrated = false
 
 te-ended : (x : Ending) (r : Report) (s : Service) → reportEnded x r s .flags .te ≡ pick (isExhausted x) true (r .flags .te)
-unfolding reportEnded isExhausted withFlags withMessage raiseTe raiseTok
+unfolding reportEnded isExhausted
 te-ended Going r s = refl
 te-ended Sent r s = refl
 te-ended Exhausted r s = refl
@@ -138,7 +139,7 @@ te-ended Aborted r s = refl
 te-ended Rearbitrated r s = refl
 
 te-verdict : (w : Verdict) (r : Report) (s : Service) → reportJudged w r s .flags .te ≡ r .flags .te
-unfolding reportJudged reportSending withSending
+unfolding reportJudged reportSending
 te-verdict Unjudged r s = refl
 te-verdict Goes r s = refl
 te-verdict Lost r s = refl
@@ -146,19 +147,19 @@ te-verdict (Failed code) r s = refl
 te-verdict Done r s = refl
 
 te-stored : (r : Report) (asked : Bool) (channel : ℕ) → reportStored r asked channel .flags .te ≡ r .flags .te
-unfolding reportStored withFlags raiseRok raiseRnok
+unfolding reportStored
 te-stored r true channel = refl
 te-stored r false channel = refl
 
 te-delivered : (d : Delivery) (r : Report) (x : Reception) → reportDelivered d r x .flags .te ≡ r .flags .te
-unfolding reportDelivered withReceiveError withError withFlags raiseRe
+unfolding reportDelivered receiveError
 te-delivered delivery.Nothing r x = refl
 te-delivered delivery.Stored r x = te-stored r (acknowledgeAsked (getD (x .bytes) 1 0)) (x .winner .channel)
 te-delivered delivery.Overflowed r x = refl
 te-delivered delivery.Spoiled r x = refl
 
 te-heard : (h : Hearing) (r : Report) → reportHeard h r .flags .te ≡ r .flags .te
-unfolding reportHeard withError
+unfolding reportHeard
 te-heard Silent r = refl
 te-heard Follows r = refl
 te-heard (Fault code) r = refl
@@ -177,25 +178,25 @@ te-judged k w h =
 
 module _ (m : List ℕ) (k : Core) where
   pub follows-activity : followsOn m k .activity ≡ idleDue k .activity
-  unfolding followsOn startMade withService
+  unfolding followsOn startMade
   follows-activity = choice-activity m (idleDue k)
 
   pub follows-line : followsOn m k .line ≡ idleDue k .line
-  unfolding followsOn startMade withService
+  unfolding followsOn startMade
   follows-line = choice-line m (idleDue k)
 
   pub follows-reception : followsOn m k .reception ≡ idleDue k .reception
-  unfolding followsOn startMade withService
+  unfolding followsOn startMade
   follows-reception = choice-reception m (idleDue k)
 
   pub follows-te : followsOn m k .report .flags .te ≡ k .report .flags .te
-  unfolding followsOn startMade withService
+  unfolding followsOn startMade
   follows-te = ap (λ x. x .te) (choice-flags m (idleDue k)) ∙ ap (λ x. x .flags .te) (idle-report k)
 
   -- the service after choice and start is that of the tally after them
   pub follows-service : (t : Tally) → k .service ≡ serviceOf t
       → followsOn m k .service ≡ serviceOf (startT (chooseT t m (isActive (followsOn m k .activity .mode)) (followsOn m k .reception)) m (followsOn m k .line) (followsOn m k .reception))
-  unfolding followsOn startMade withService
+  unfolding followsOn startMade
   follows-service t e =
       let x : Core = idleDue k in
       let s : choiceMade m x .service ≡ serviceOf (chooseT t m (isActive (x .activity .mode)) (x .reception)) = choice-service m x t (idle-service k ∙ e) in
@@ -216,23 +217,23 @@ module _ (k : Core) (v : ℕ) where
   idle-asked f p = left f (isActive (k .activity .mode)) (withActivity k (inMode Active true)) k (f k) p refl
 
   mode-service : modeCommanded k v .service ≡ k .service
-  mode-service = mode-leaves (λ x. x .service) (idle-asked (λ x. x .service) (unfold withActivity in refl)) activated-service
+  mode-service = mode-leaves (λ x. x .service) (idle-asked (λ x. x .service) refl) activated-service
     where
       activated-service : activated k .service ≡ k .service
-      activated-service = unfold activated withActivity in left (λ x. x .service) (isActive (k .activity .mode)) (withActivity k (inMode Active false)) (record { activity = inMode Active false; report = k .report; line = unsettled; reception = k .reception; service = k .service }) (k .service) refl refl
+      activated-service = unfold activated in left (λ x. x .service) (isActive (k .activity .mode)) (withActivity k (inMode Active false)) (withLine (withActivity k (inMode Active false)) unsettled) (k .service) refl refl
 
   mode-report : modeCommanded k v .report ≡ k .report
-  mode-report = mode-leaves (λ x. x .report) (idle-asked (λ x. x .report) (unfold withActivity in refl)) activated-report
+  mode-report = mode-leaves (λ x. x .report) (idle-asked (λ x. x .report) refl) activated-report
     where
       activated-report : activated k .report ≡ k .report
-      activated-report = unfold activated withActivity in left (λ x. x .report) (isActive (k .activity .mode)) (withActivity k (inMode Active false)) (record { activity = inMode Active false; report = k .report; line = unsettled; reception = k .reception; service = k .service }) (k .report) refl refl
+      activated-report = unfold activated in left (λ x. x .report) (isActive (k .activity .mode)) (withActivity k (inMode Active false)) (withLine (withActivity k (inMode Active false)) unsettled) (k .report) refl refl
 
 module _ (k : Core) (address v : ℕ) where
   pub written-service : coreWritten k address v .service ≡ k .service
   unfolding coreWritten
   written-service =
       left (λ x. x .service) (eqb address command) (modeCommanded k v) (pick (eqb address interruptReset) (flagsCleared k v) k) (k .service) (mode-service k v)
-      (left (λ x. x .service) (eqb address interruptReset) (flagsCleared k v) k (k .service) (unfold flagsCleared withReport in refl) refl)
+      (left (λ x. x .service) (eqb address interruptReset) (flagsCleared k v) k (k .service) (unfold flagsCleared in refl) refl)
 
   unless-false : (named : Bool) → unless false named ≡ false
   unfolding unless
@@ -244,14 +245,14 @@ module _ (k : Core) (address v : ℕ) where
   unfolding coreWritten
   written-te e =
       left (λ x. x .report .flags .te) (eqb address command) (modeCommanded k v) (pick (eqb address interruptReset) (flagsCleared k v) k) false (ap (λ x. x .flags .te) (mode-report k v) ∙ e)
-      (left (λ x. x .report .flags .te) (eqb address interruptReset) (flagsCleared k v) k false (unfold flagsCleared withReport withFlags cleared in rw e (unless-false (eqb (v / 16 % 2) 1))) e)
+      (left (λ x. x .report .flags .te) (eqb address interruptReset) (flagsCleared k v) k false (unfold flagsCleared cleared in rw e (unless-false (eqb (v / 16 % 2) 1))) e)
 
 module _ (k : Core) (s : Service) where
   pub stopped-service : stoppedCore k s .service ≡ settled (stopped s) s
-  unfolding stoppedCore withService
+  unfolding stoppedCore
   stopped-service = idle-service (withService (withReport k (reportEnded (stopped s) (k .report) s)) (settled (stopped s) s))
 
   pub stopped-te : stoppedCore k s .report .flags .te ≡ pick (isExhausted (stopped s)) true (k .report .flags .te)
-  unfolding stoppedCore withService withReport
+  unfolding stoppedCore
   stopped-te =
       ap (λ (x : Report). x .flags .te) (idle-report (withService (withReport k (reportEnded (stopped s) (k .report) s)) (settled (stopped s) s))) ∙ te-ended (stopped s) (k .report) s

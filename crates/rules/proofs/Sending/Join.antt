@@ -3,7 +3,6 @@ use Prim.Native.Nat.{ℕ, _+_, _-_, _*_, _/_, _%_, _≤_, min}
 use mathlib.Core.Bool.{Bool, true, false, false≢true}
 use mathlib.Core.List.{List, [], _∷_, _++_}
 use mathlib.Core.Path.{_≡_, refl, ap, _∙_, sym}
-use native.Mathlib.Nat.{add-zero}
 use native.Mathlib.Omega.{arith}
 use borrow.Author.Tests.{ltb-true, ltb-false}
 use lib.Dec.{eqb, ltb}
@@ -20,12 +19,12 @@ use Rattle.rules.specs.Definitions.Channels.{acknowledgeAsked, base, che
 use Rattle.rules.specs.Definitions.Mailbox.{coded, codedBytes}
 use Rattle.rules.specs.Definitions.Reception.{free, underWay, startEnded}
 use Rattle.rules.specs.Definitions.Attempt as attempt
-use Rattle.rules.specs.Definitions.Attempt.{largest, moreSlots, moreAttempts, noCounts, atStage, inService, isServing, betweenAttempts, isBetween, waits, isWaiting, drivesFrame, isDriving, levelAt, due, overdriven, violated, recessiveLost, difference, judgeSlot, judge, withProgress, slotSpent, lostSpent, errorSpent, advance, exhausted}
-use Rattle.rules.specs.Definitions.Service.{resting, withEffort, stopped, endingOf, settled, chosen, choiceOf, opened, started, abortAsked, rearAsked, aborts}
+use Rattle.rules.specs.Definitions.Attempt.{largest, moreSlots, moreAttempts, noCounts, atStage, inService, isServing, betweenAttempts, isBetween, waits, isWaiting, drivesFrame, isDriving, levelAt, due, overdriven, violated, recessiveLost, difference, judgeSlot, judge, slotSpent, lostSpent, errorSpent, advance, exhausted}
+use Rattle.rules.specs.Definitions.Service.{resting, stopped, endingOf, settled, chosen, choiceOf, opened, started, abortAsked, rearAsked, aborts}
 use Rattle.rules.specs.Definitions.Slots.{serviceJudged}
 use Rattle.rules.specs.Definitions.Host.{rearCommanded, serviceAsked}
 use Rattle.rules.specs.Statements.Tally as tally
-use Rattle.rules.specs.Statements.Tally.{Stand, away, between, opening, inside, Tally, none, goes, contended, failed, sent, asksAcknowledge, dueLevel, openHalf, arbitrated, verdict, tallied, judgedAs, countedIn, countedT, givenUp, endedIn, endedT, chosenT, choiceT, standing, startIn, startT, isAway, asking, asks, askedIn, askedT}
+use Rattle.rules.specs.Statements.Tally.{Stand, away, between, opening, inside, Tally, none, goes, contended, failed, sent, asksAcknowledge, dueLevel, openHalf, arbitrated, verdict, spentT, judgedAs, countedIn, countedT, givenUp, endedIn, endedT, chosenT, choiceT, startIn, startT, isAway, asks, askedIn, askedT}
 use Rattle.rules.specs.declared.Choice.{Choice}
 use Rattle.rules.specs.declared.Choice.the-variants.{Nothing, Lowest}
 use Rattle.rules.specs.declared.Line.{Line}
@@ -203,35 +202,35 @@ more-attempts x = go (ltb (min x largest) largest) refl
     go false e = let q : min x largest ≡ min (x + 1) largest = omega (arith, ltb-false) in λ i. record { 0 = q i }
 
 module _ (t : Tally) (s : Stand) where
-  spent-slot : slotSpent (countersOf t) ≡ countersOf (tallied t s 0 0 1)
-  unfolding slotSpent countersOf tallied
-  spent-slot = rw (more-slots (t .slots), add-zero (t .lost), add-zero (t .errors))
+  spent-slot : slotSpent (countersOf t) ≡ countersOf (spentT t s)
+  unfolding slotSpent countersOf spentT
+  spent-slot = rw (more-slots (t .slots))
 
-  spent-lost : lostSpent (countersOf t) ≡ countersOf (tallied t s 1 0 1)
-  unfolding lostSpent countersOf tallied
-  spent-lost = rw (more-slots (t .slots), more-attempts (t .lost), add-zero (t .errors))
+  spent-lost : lostSpent (countersOf t) ≡ countersOf (tally.withLost (spentT t s) (t .lost + 1))
+  unfolding lostSpent slotSpent countersOf spentT
+  spent-lost = rw (more-slots (t .slots), more-attempts (t .lost))
 
-  spent-error : errorSpent (countersOf t) ≡ countersOf (tallied t s 0 1 1)
-  unfolding errorSpent countersOf tallied
-  spent-error = rw (more-slots (t .slots), more-attempts (t .errors), add-zero (t .lost))
+  spent-error : errorSpent (countersOf t) ≡ countersOf (tally.withErrors (spentT t s) (t .errors + 1))
+  unfolding errorSpent slotSpent countersOf spentT
+  spent-error = rw (more-slots (t .slots), more-attempts (t .errors))
 
 -- ---- the attempt goes on, is lost or fails
 
 module _ (t : Tally) (stage : Stage) (k start : ℕ) (levels : List ℕ) where
   pub gone-on : k + 1 ≡ start + length levels → serviceJudged Goes (made t stage k) ≡ serviceOf (judgedAs goes t start levels)
-  unfolding serviceJudged withEffort advance withProgress made serviceOf serviceIn judgedAs tallied atStage
+  unfolding serviceJudged advance made serviceOf serviceIn judgedAs spentT atStage
   gone-on e =
       let c = spent-slot t (inside start levels) in
       λ i. record { channel = t .channel; abort = t .abort; rear = t .rear; effort = record { frame = coded (t .frame); setting = t .setting; progress = atStage Sending (e i); counters = c i } }
 
   pub was-lost : serviceJudged Lost (made t stage k) ≡ serviceOf (judgedAs contended t start levels)
-  unfolding serviceJudged withEffort advance withProgress made serviceOf serviceIn judgedAs tallied
+  unfolding serviceJudged advance made serviceOf serviceIn judgedAs spentT
   was-lost =
       let c = spent-lost t between in
       λ i. record { channel = t .channel; abort = t .abort; rear = t .rear; effort = record { frame = coded (t .frame); setting = t .setting; progress = atStage Waiting 0; counters = c i } }
 
   pub has-failed : (code : ℕ) → serviceJudged (Failed code) (made t stage k) ≡ serviceOf (judgedAs failed t start levels)
-  unfolding serviceJudged withEffort advance withProgress made serviceOf serviceIn judgedAs tallied
+  unfolding serviceJudged advance made serviceOf serviceIn judgedAs spentT
   has-failed code =
       let c = spent-error t between in
       λ i. record { channel = t .channel; abort = t .abort; rear = t .rear; effort = record { frame = coded (t .frame); setting = t .setting; progress = atStage Waiting 0; counters = c i } }
@@ -274,10 +273,10 @@ settled-is t h = settled-in (t .stand) t refl h
 settle-judged : {w : Verdict} → Judged w → (t : Tally) (stage : Stage) (k start : ℕ) (levels : List ℕ) → k + 1 ≡ start + length levels → t .errors ≤ 15
     → settled (endingOf w (serviceJudged w (made t stage k))) (serviceJudged w (made t stage k)) ≡ serviceOf (endedT (judgedAs (kind w) t start levels))
 unfolding endingOf kind
-settle-judged went t stage k start levels e h = rw (gone-on t stage k start levels e) (settled-is (judgedAs goes t start levels) (unfold judgedAs tallied in omega arith))
-settle-judged lost t stage k start levels e h = rw (was-lost t stage k start levels) (settled-is (judgedAs contended t start levels) (unfold judgedAs tallied in omega arith))
-settle-judged (broke {code = code}) t stage k start levels e h = rw (has-failed t stage k start levels code) (settled-is (judgedAs failed t start levels) (unfold judgedAs tallied in omega arith))
-settle-judged done t stage k start levels e h = unfold settled serviceOf serviceIn endedT endedIn judgedAs tallied none in refl
+settle-judged went t stage k start levels e h = rw (gone-on t stage k start levels e) (settled-is (judgedAs goes t start levels) (unfold judgedAs spentT in omega arith))
+settle-judged lost t stage k start levels e h = rw (was-lost t stage k start levels) (settled-is (judgedAs contended t start levels) (unfold judgedAs spentT in omega arith))
+settle-judged (broke {code = code}) t stage k start levels e h = rw (has-failed t stage k start levels code) (settled-is (judgedAs failed t start levels) (unfold judgedAs spentT in omega arith))
+settle-judged done t stage k start levels e h = unfold settled serviceOf serviceIn endedT endedIn judgedAs spentT none in refl
 
 -- ---- a slot's sample
 
@@ -301,11 +300,11 @@ isBetweenStand (opening start) = false
 isBetweenStand (inside start levels) = false
 
 settled-away : (t : Tally) (v : ℕ) → t .stand ≡ away → settledAfter (serviceIn away t) v ≡ serviceOf (endedT t)
-unfolding settled endingOf judge serviceJudged withEffort advance serviceIn resting atStage drivesFrame isDriving stopped betweenAttempts isBetween endedT serviceOf endedIn none
+unfolding settled endingOf judge serviceJudged advance serviceIn resting atStage drivesFrame isDriving stopped betweenAttempts isBetween endedT serviceOf endedIn none
 settled-away t v e = rw e
 
 settled-between : (t : Tally) (v : ℕ) → t .stand ≡ between → t .errors ≤ 15 → settledAfter (serviceIn between t) v ≡ serviceOf (endedT t)
-unfolding endingOf judge serviceJudged withEffort advance serviceIn made atStage drivesFrame isDriving endedT
+unfolding endingOf judge serviceJudged advance serviceIn made atStage drivesFrame isDriving endedT
 settled-between t v e h = settled-in between t e (omega arith) ∙ ap (λ (s : Stand). serviceOf (endedIn s t)) (sym e)
 
 pub judge-driving : (t : Tally) (stage : Stage) (k v : ℕ) → isDriving stage ≡ true → judge (made t stage k .effort) v ≡ judgeSlot (coded (t .frame)) k v
@@ -340,7 +339,7 @@ slot-settled t d v q h = slot-settled-in (t .stand) t d v refl q h
 -- ---- choice and start
 
 chosen-is : (m : List ℕ) (c : ℕ) → chosen m c ≡ serviceOf (chosenT m c)
-unfolding chosen chosenT serviceOf serviceIn made countersOf noCounts atStage
+unfolding chosen resting chosenT none serviceOf serviceIn made countersOf noCounts atStage
 chosen-is m c = refl
 
 pub choose-is : (m : List ℕ) (x : Choice) → choiceOf m x ≡ serviceOf (choiceT m x)
@@ -348,13 +347,13 @@ unfolding choiceOf choiceT
 choose-is m Nothing = unfold serviceOf serviceIn none in refl
 choose-is m (Lowest c) = chosen-is m c
 
-opened-is : (t : Tally) (k : ℕ) → opened (made t Waiting 0) k ≡ serviceOf (standing t (opening k))
-unfolding opened withEffort withProgress made serviceOf serviceIn standing tallied countersOf
-opened-is t k = rw (add-zero (t .slots), add-zero (t .lost), add-zero (t .errors))
+opened-is : (t : Tally) (k : ℕ) → opened (made t Waiting 0) k ≡ serviceOf (tally.withStand t (opening k))
+unfolding opened made serviceOf serviceIn countersOf
+opened-is t k = refl
 
 start-go : (t : Tally) → serviceOf t ≡ made t Waiting 0 → (a b c : Bool)
     → pick a (opened (made t Waiting 0) 10) (pick b (made t Waiting 0) (pick c (opened (made t Waiting 0) 0) (made t Waiting 0)))
-    ≡ serviceOf (pick a (standing t (opening 10)) (pick b t (pick c (standing t (opening 0)) t)))
+    ≡ serviceOf (pick a (tally.withStand t (opening 10)) (pick b t (pick c (tally.withStand t (opening 0)) t)))
 start-go t e true b c = opened-is t 10
 start-go t e false true c = sym e
 start-go t e false false true = opened-is t 0
@@ -380,17 +379,19 @@ module _ (m : List ℕ) (l : Line) (r : Reception) where
 
 -- ---- what a host write asks
 
+abbrev asking : Tally → Bool → Bool → Tally
+asking t a r = tally.withRear (tally.withAbort t a) r
+
 module _ (t : Tally) (stage : Stage) (at : ℕ) (serving : isServing stage ≡ true) (same : (a r : Bool) → serviceOf (asking t a r) ≡ made (asking t a r) stage at) where
-  rear-made : rearAsked (made t stage at) ≡ serviceOf (asking t (t .abort) true)
-  unfolding rearAsked made inService atStage asking countersOf
+  rear-made : rearAsked (made t stage at) ≡ serviceOf (tally.withRear t true)
+  unfolding rearAsked made inService atStage countersOf
   rear-made = rw serving (sym (same (t .abort) true))
 
-  abort-made : abortAsked (made t stage at) ≡ serviceOf (asking t true (t .rear))
-  unfolding abortAsked made asking countersOf
+  abort-made : abortAsked (made t stage at) ≡ serviceOf (tally.withAbort t true)
+  unfolding abortAsked made countersOf
   abort-made = sym (same true (t .rear))
 
   same-made : made t stage at ≡ serviceOf t
-  unfolding asking
   same-made = sym (same (t .abort) (t .rear))
 
   asked-made : (address v : ℕ) → serviceAsked (made t stage at) address v ≡ serviceOf (asks t address v)
@@ -400,7 +401,7 @@ module _ (t : Tally) (stage : Stage) (at : ℕ) (serving : isServing stage ≡ t
     where
       go : (x y s : Bool) → s ≡ true → (z u : Bool)
           → pick x (pick y (rearAsked (made t stage at)) (made t stage at)) (pick (pick s (pick z u false) false) (abortAsked (made t stage at)) (made t stage at))
-          ≡ serviceOf (pick x (pick y (asking t (t .abort) true) t) (pick (both z u) (asking t true (t .rear)) t))
+          ≡ serviceOf (pick x (pick y (tally.withRear t true) t) (pick (both z u) (tally.withAbort t true) t))
       go true true s e z u = rear-made
       go true false s e z u = same-made
       go false y true e true true = abort-made
@@ -420,9 +421,9 @@ asked-away address v = go (eqb address command) (asksRearbitration v)
 asked-in : (s : Stand) (t : Tally) → t .stand ≡ s → (address v : ℕ) → serviceAsked (serviceIn s t) address v ≡ serviceOf (askedIn s t address v)
 unfolding askedIn serviceOf
 asked-in away t e address v = unfold serviceIn in (asked-away address v ∙ ap (λ (s : Stand). serviceIn s t) (sym e))
-asked-in between t e address v = unfold serviceIn in asked-made t Waiting 0 (unfold isServing in refl) (λ a r. unfold serviceOf serviceIn asking in rw e) address v
-asked-in (opening start) t e address v = unfold serviceIn in asked-made t Opening start (unfold isServing in refl) (λ a r. unfold serviceOf serviceIn asking in rw e) address v
-asked-in (inside start levels) t e address v = unfold serviceIn in asked-made t Sending (start + length levels) (unfold isServing in refl) (λ a r. unfold serviceOf serviceIn asking in rw e) address v
+asked-in between t e address v = unfold serviceIn in asked-made t Waiting 0 (unfold isServing in refl) (λ a r. unfold serviceOf serviceIn in rw e) address v
+asked-in (opening start) t e address v = unfold serviceIn in asked-made t Opening start (unfold isServing in refl) (λ a r. unfold serviceOf serviceIn in rw e) address v
+asked-in (inside start levels) t e address v = unfold serviceIn in asked-made t Sending (start + length levels) (unfold isServing in refl) (λ a r. unfold serviceOf serviceIn in rw e) address v
 
 pub asked-is : (t : Tally) (address v : ℕ) → serviceAsked (serviceOf t) address v ≡ serviceOf (askedT t address v)
 unfolding serviceOf askedT

@@ -10,10 +10,10 @@ use lib.ListN.{length}
 use Rattle.line.specs.Bits.{pick}
 use Rattle.rules.specs.Definitions.Mailbox.{coded}
 use Rattle.rules.specs.Definitions.Attempt.{levelAt, judge, advance, atStage, drivesFrame, isDriving, betweenAttempts, isBetween}
-use Rattle.rules.specs.Definitions.Service.{resting, withEffort, stopped, endingOf}
+use Rattle.rules.specs.Definitions.Service.{resting, stopped, endingOf}
 use Rattle.rules.specs.Definitions.Slots.{serviceJudged}
 use Rattle.rules.specs.Statements.Tally as tally
-use Rattle.rules.specs.Statements.Tally.{Stand, away, between, opening, inside, Tally, goes, contended, failed, verdict, tallied, judgedAs, countedIn, countedT, isAway}
+use Rattle.rules.specs.Statements.Tally.{Stand, away, between, opening, inside, Tally, goes, contended, failed, verdict, spentT, judgedAs, countedIn, countedT, isAway}
 use Rattle.rules.proofs.Sending.Join.{made, serviceIn, serviceOf, kind, Judged, went, lost, broke, done, slot-judged, kind-same, stopped-made, gone-on, was-lost, has-failed, judge-driving, last-level, drivenIn, isBetweenStand}
 use Rattle.rules.proofs.Sending.Follow.{isExhausted}
 use Rattle.rules.specs.declared.Stage.{Stage}
@@ -38,14 +38,14 @@ exhausted-sending t at = refl
 
 exhausted-judged : {w : Verdict} → Judged w → (t : Tally) (stage : Stage) (k start : ℕ) (levels : List ℕ) → k + 1 ≡ start + length levels → t .errors ≤ t .setting → t .setting ≤ 15
     → isExhausted (endingOf w (serviceJudged w (made t stage k))) ≡ ltb (judgedAs (kind w) t start levels .setting) (judgedAs (kind w) t start levels .errors)
-unfolding endingOf kind judgedAs tallied serviceOf serviceIn isBetween isExhausted
+unfolding endingOf kind judgedAs spentT serviceOf serviceIn isBetween isExhausted
 exhausted-judged went t stage k start levels e g h =
-    ap (λ (s : Service). isExhausted (stopped s)) (gone-on t stage k start levels e) ∙ exhausted-sending (judgedAs goes t start levels) (start + length levels) ∙ sym (le-ltb (t .setting) (t .errors + 0) (omega arith))
+    ap (λ (s : Service). isExhausted (stopped s)) (gone-on t stage k start levels e) ∙ exhausted-sending (judgedAs goes t start levels) (start + length levels) ∙ sym (le-ltb (t .setting) (t .errors) (omega arith))
 exhausted-judged lost t stage k start levels e g h =
     ap (λ (s : Service). isExhausted (stopped s)) (was-lost t stage k start levels) ∙ exhausted-between (judgedAs contended t start levels) Waiting 0 refl (omega arith)
 exhausted-judged (broke {code = code}) t stage k start levels e g h =
     ap (λ (s : Service). isExhausted (stopped s)) (has-failed t stage k start levels code) ∙ exhausted-between (judgedAs failed t start levels) Waiting 0 refl (omega arith)
-exhausted-judged done t stage k start levels e g h = sym (le-ltb (t .setting) (t .errors + 0) (omega arith))
+exhausted-judged done t stage k start levels e g h = sym (le-ltb (t .setting) (t .errors) (omega arith))
 
 in-attempt : (t : Tally) (stage : Stage) (k start : ℕ) (levels : List ℕ) (v : ℕ) → isDriving stage ≡ true → k + 1 ≡ start + length levels → t .errors ≤ t .setting → t .setting ≤ 15
     → isExhausted (endingOf (judge (made t stage k .effort) v) (serviceJudged (judge (made t stage k .effort) v) (made t stage k)))
@@ -62,9 +62,9 @@ exhausted-in : (s : Stand) (t : Tally) (d v : ℕ) → (isAway s ≡ false → i
     → exhaustedAfter (serviceIn s t) v ≡ ltb (countedIn s t d v .setting) (countedIn s t d v .errors)
 unfolding countedIn drivenIn isAway isBetweenStand
 exhausted-in away t d v q g h =
-    unfold endingOf judge serviceJudged withEffort advance serviceIn resting atStage drivesFrame isDriving stopped betweenAttempts isBetween isExhausted in sym (le-ltb (t .setting) (t .errors) g)
+    unfold endingOf judge serviceJudged advance serviceIn resting atStage drivesFrame isDriving stopped betweenAttempts isBetween isExhausted in sym (le-ltb (t .setting) (t .errors) g)
 exhausted-in between t d v q g h =
-    unfold endingOf judge serviceJudged withEffort advance serviceIn made atStage drivesFrame isDriving in exhausted-between t Waiting 0 (unfold isBetween in refl) (omega arith)
+    unfold endingOf judge serviceJudged advance serviceIn made atStage drivesFrame isDriving in exhausted-between t Waiting 0 (unfold isBetween in refl) (omega arith)
 exhausted-in (opening start) t d v q g h =
     rw (q refl refl) (unfold serviceIn in in-attempt t Opening start start (levelAt (coded (t .frame)) start ∷ []) v (unfold isDriving in refl) (omega arith) g h)
 exhausted-in (inside start levels) t d v q g h =

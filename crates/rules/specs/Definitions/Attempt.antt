@@ -14,6 +14,7 @@ use Rattle.line.specs.declared.Part.{Part}
 use Rattle.line.specs.declared.Part.the-variants.{Start, Identifier, Command, Data, Check, EndOfData, Acknowledge, EndOfFrame, After}
 use Rattle.line.specs.declared.Half.{Half}
 use Rattle.line.specs.declared.Half.the-variants.{Plain, First, Second}
+use Rattle.rules.specs.Definitions.Setters.{withSlots, withLost, withErrors, withProgress, withCounters}
 use Rattle.rules.specs.Definitions.Registers.{CV, ACKE, FCSE}
 use Rattle.rules.specs.Definitions.Channels.{acknowledgeAsked}
 use Rattle.rules.specs.declared.Timeslots.{Timeslots}
@@ -142,26 +143,23 @@ judge e v = pick (drivesFrame (e .progress)) (judgeSlot (e .frame) (e .progress 
 
 -- ---- what the attempt spends
 
-unfoldable pub withProgress : Effort → Progress → Counters → Effort
-withProgress e p c = record { frame = e .frame; setting = e .setting; progress = p; counters = c }
-
 -- "Each accepted slot of an attempt adds 1 to slots"
 unfoldable pub slotSpent : Counters → Counters
-slotSpent c = record { slots = moreSlots (c .slots); lost = c .lost; errors = c .errors }
+slotSpent c = withSlots c (moreSlots (c .slots))
 
 -- "An attempt lost there adds 1 to C, one that fails there 1 to errors."
 unfoldable pub lostSpent : Counters → Counters
-lostSpent c = record { slots = moreSlots (c .slots); lost = moreAttempts (c .lost); errors = c .errors }
+lostSpent c = withLost (slotSpent c) (moreAttempts (c .lost))
 
 unfoldable pub errorSpent : Counters → Counters
-errorSpent c = record { slots = moreSlots (c .slots); lost = c .lost; errors = moreAttempts (c .errors) }
+errorSpent c = withErrors (slotSpent c) (moreAttempts (c .errors))
 
 unfoldable pub advance : Verdict → Effort → Effort
 advance Unjudged e = e
-advance Goes e = withProgress e (atStage Sending (e .progress .at + 1)) (slotSpent (e .counters))
-advance Lost e = withProgress e (atStage Waiting 0) (lostSpent (e .counters))
-advance (Failed code) e = withProgress e (atStage Waiting 0) (errorSpent (e .counters))
-advance Done e = withProgress e (atStage Waiting 0) (slotSpent (e .counters))
+advance Goes e = withCounters (withProgress e (atStage Sending (e .progress .at + 1))) (slotSpent (e .counters))
+advance Lost e = withCounters (withProgress e (atStage Waiting 0)) (lostSpent (e .counters))
+advance (Failed code) e = withCounters (withProgress e (atStage Waiting 0)) (errorSpent (e .counters))
+advance Done e = withCounters (withProgress e (atStage Waiting 0)) (slotSpent (e .counters))
 
 -- "After error R + 1"
 unfoldable pub exhausted : Effort → Bool

@@ -5,13 +5,12 @@ use mathlib.Core.Bool.{Bool, true}
 use mathlib.Core.List.{List}
 use lib.ListN.{getD}
 use Rattle.line.specs.Bits.{pick}
+use Rattle.rules.specs.Definitions.Setters.{withRe, withRok, withRnok, withMessage, withError, withFlags}
 use Rattle.rules.specs.Definitions.Registers.{BOV}
 use Rattle.rules.specs.Definitions.Channels.{acknowledgeAsked}
 use Rattle.rules.specs.Definitions.Mailbox.{stored, retagged, markedCher, markedChrx}
 use Rattle.rules.specs.Definitions.Reception.{dataCount}
 use Rattle.rules.specs.Definitions.Hearing.{fits}
-use Rattle.rules.specs.declared.Flags.{Flags}
-use Rattle.rules.specs.declared.Retries.{Retries}
 use Rattle.rules.specs.declared.Report.{Report}
 use Rattle.rules.specs.declared.Reception.{Reception}
 use Rattle.rules.specs.declared.Hearing.{Hearing}
@@ -50,36 +49,15 @@ memoryDelivered Spoiled m r = markedCher m (r .winner .channel)
 
 -- ---- the registers
 
--- "Each error replaces 0x07 (house)"
-unfoldable pub withError : Report → ℕ → Report
-withError x code = record { sending = x .sending; message = x .message; error = code; flags = x .flags }
-
-unfoldable pub withFlags : Report → Flags → Report
-withFlags x f = record { sending = x .sending; message = x .message; error = x .error; flags = f }
-
-unfoldable pub withMessage : Report → Retries → Report
-withMessage x r = record { sending = x .sending; message = r; error = x .error; flags = x .flags }
-
-unfoldable pub withSending : Report → Retries → Report
-withSending x r = record { sending = r; message = x .message; error = x .error; flags = x .flags }
-
-unfoldable pub raiseRe : Flags → Flags
-raiseRe f = record { rst = f .rst; te = f .te; tok = f .tok; re = true; rok = f .rok; rnok = f .rnok }
-
-unfoldable pub raiseRok : Flags → Flags
-raiseRok f = record { rst = f .rst; te = f .te; tok = f .tok; re = f .re; rok = true; rnok = f .rnok }
-
-unfoldable pub raiseRnok : Flags → Flags
-raiseRnok f = record { rst = f .rst; te = f .te; tok = f .tok; re = f .re; rok = f .rok; rnok = true }
-
-unfoldable pub withReceiveError : Report → Report
-withReceiveError x = withFlags x (raiseRe (x .flags))
+unfoldable pub receiveError : Report → Report
+receiveError x = withFlags x (withRe (x .flags) true)
 
 -- "ROK if RAK is 1, else RNOK"; "0x06 is written on .. CHRx (retries 0)"
 unfoldable pub reportStored : Report → Bool → ℕ → Report
 reportStored x asked channel =
-    withFlags (withMessage x (record { count = 0; channel = channel })) (pick asked (raiseRok (x .flags)) (raiseRnok (x .flags)))
+    withFlags (withMessage x (record { count = 0; channel = channel })) (pick asked (withRok (x .flags) true) (withRnok (x .flags) true))
 
+-- "Each error replaces 0x07 (house)"
 unfoldable pub reportHeard : Hearing → Report → Report
 reportHeard Silent x = x
 reportHeard Follows x = x
@@ -89,5 +67,5 @@ reportHeard Good x = x
 unfoldable pub reportDelivered : Delivery → Report → Reception → Report
 reportDelivered Nothing x r = x
 reportDelivered Stored x r = reportStored x (acknowledgeAsked (getD (r .bytes) 1 0)) (r .winner .channel)
-reportDelivered Overflowed x r = withReceiveError (withError x BOV)
-reportDelivered Spoiled x r = withReceiveError x
+reportDelivered Overflowed x r = receiveError (withError x BOV)
+reportDelivered Spoiled x r = receiveError x

@@ -7,12 +7,12 @@ use mathlib.Core.List.{List}
 use lib.Dec.{eqb, ltb}
 use lib.ListN.{getD, set}
 use Rattle.line.specs.Bits.{pick}
+use Rattle.rules.specs.Definitions.Setters.{withFlags, withReport, withService}
 use Rattle.rules.specs.Definitions.Registers.{both, command, interruptReset, interruptEnable, readOnly, writeOnly, reserved, fixedBits, asksReset, asksSleep, asksIdle, asksActivation, asksRearbitration, cleared, lineStatus, retriesByte, interruptStatus, asserted, lineStatusAt, transmissionStatus, lastMessageStatus, lastErrorStatus}
 use Rattle.rules.specs.Definitions.Mailbox.{resetMemory}
 use Rattle.rules.specs.Definitions.Reception.{underWay}
-use Rattle.rules.specs.Definitions.Delivery.{withFlags}
 use Rattle.rules.specs.Definitions.Service.{stopped, settled, memoryEnded, reportEnded, abortAsked, rearAsked, aborts}
-use Rattle.rules.specs.Definitions.State.{inRange, isAsleep, isIdle, serving, withReport, withService, resetCore, idleDue, slept, idleAsked, activated}
+use Rattle.rules.specs.Definitions.State.{inRange, isAsleep, isIdle, serving, resetCore, idleDue, slept, idleAsked, activated}
 use Rattle.rules.specs.declared.Service.{Service}
 use Rattle.rules.specs.declared.Core.{Core}
 use Rattle.rules.specs.declared.Controller.{Controller}

@@ -7,13 +7,12 @@ use mathlib.Core.List.{List}
 use lib.Dec.{eqb, ltb}
 use lib.ListN.{getD, replicate}
 use Rattle.line.specs.Bits.{pick}
+use Rattle.rules.specs.Definitions.Setters.{withTe, withTok, withSending, withMessage, withFlags, withFrame, withSetting, withProgress, withChannel, withAbort, withRear, withEffort}
 use Rattle.rules.specs.Definitions.Registers.{both, transmitControl, retrySetting}
 use Rattle.rules.specs.Definitions.Channels.{base, cher, lowestReady}
 use Rattle.rules.specs.Definitions.Mailbox.{sentFrame, coded, markedCher, markedChtx}
 use Rattle.rules.specs.Definitions.Reception.{free, underWay, startEnded}
-use Rattle.rules.specs.Definitions.Delivery.{withFlags, withMessage, withSending}
-use Rattle.rules.specs.Definitions.Attempt.{noCounts, atStage, inService, betweenAttempts, waits, drivesFrame, withProgress, exhausted}
-use Rattle.rules.specs.declared.Flags.{Flags}
+use Rattle.rules.specs.Definitions.Attempt.{noCounts, atStage, inService, betweenAttempts, waits, drivesFrame, exhausted}
 use Rattle.rules.specs.declared.Retries.{Retries}
 use Rattle.rules.specs.declared.Report.{Report}
 use Rattle.rules.specs.declared.Choice.{Choice}
@@ -25,7 +24,6 @@ use Rattle.rules.specs.declared.Hearing.{Hearing}
 use Rattle.rules.specs.declared.Hearing.the-variants.{Silent, Follows, Fault, Good}
 use Rattle.rules.specs.declared.Stage.the-variants.{Resting, Waiting, Opening}
 use Rattle.rules.specs.declared.Progress.{Progress}
-use Rattle.rules.specs.declared.Effort.{Effort}
 use Rattle.rules.specs.declared.Service.{Service}
 use Rattle.rules.specs.declared.Verdict.{Verdict}
 use Rattle.rules.specs.declared.Verdict.the-variants.{Unjudged, Goes, Lost, Failed, Done}
@@ -46,9 +44,6 @@ resting =
       rear = false;
       effort = record { frame = record { n = 0; bytes = replicate 34 0 }; setting = 0; progress = atStage Resting 0; counters = noCounts };
     }
-
-unfoldable pub withEffort : Service → Effort → Service
-withEffort s e = record { channel = s .channel; abort = s .abort; rear = s .rear; effort = e }
 
 -- ---- the end of a service
 
@@ -100,17 +95,11 @@ reportJudged Lost x s = x
 reportJudged (Failed code) x s = reportSending x s
 reportJudged Done x s = x
 
-unfoldable pub raiseTe : Flags → Flags
-raiseTe f = record { rst = f .rst; te = true; tok = f .tok; re = f .re; rok = f .rok; rnok = f .rnok }
-
-unfoldable pub raiseTok : Flags → Flags
-raiseTok f = record { rst = f .rst; te = f .te; tok = true; re = f .re; rok = f .rok; rnok = f .rnok }
-
 -- "0x06 is written on success, exhaustion"
 unfoldable pub reportEnded : Ending → Report → Service → Report
 reportEnded Going x s = x
-reportEnded Sent x s = withFlags (withMessage x (retriesOf s)) (raiseTok (x .flags))
-reportEnded Exhausted x s = withFlags (withMessage x (retriesOf s)) (raiseTe (x .flags))
+reportEnded Sent x s = withFlags (withMessage x (retriesOf s)) (withTok (x .flags) true)
+reportEnded Exhausted x s = withFlags (withMessage x (retriesOf s)) (withTe (x .flags) true)
 reportEnded Aborted x s = x
 reportEnded Rearbitrated x s = x
 
@@ -119,18 +108,8 @@ reportEnded Rearbitrated x s = x
 -- "Frame and MR are copied then (house)"
 unfoldable pub chosen : List ℕ → ℕ → Service
 chosen m c =
-    record {
-      channel = c;
-      abort = false;
-      rear = false;
-      effort =
-          record {
-            frame = coded (sentFrame m c);
-            setting = retrySetting (getD m transmitControl 0);
-            progress = atStage Waiting 0;
-            counters = noCounts;
-          };
-    }
+    withEffort (withChannel resting c)
+    (withProgress (withSetting (withFrame (resting .effort) (coded (sentFrame m c))) (retrySetting (getD m transmitControl 0))) (atStage Waiting 0))
 
 unfoldable pub choiceOf : List ℕ → Choice → Service
 choiceOf m Nothing = resting
@@ -141,7 +120,7 @@ unfoldable pub choose : List ℕ → ℕ → Service
 choose m longest = choiceOf m (lowestReady m longest)
 
 unfoldable pub opened : Service → ℕ → Service
-opened s k = withEffort s (withProgress (s .effort) (atStage Opening k) (s .effort .counters))
+opened s k = withEffort s (withProgress (s .effort) (atStage Opening k))
 
 -- "MT 1 starts at once on a free line; either type joins a clean start sequence."
 unfoldable pub started : Service → Bool → Line → Reception → Service
@@ -153,11 +132,11 @@ started s autonomous l r =
 -- ---- abort and REAR
 
 unfoldable pub abortAsked : Service → Service
-abortAsked s = record { channel = s .channel; abort = true; rear = s .rear; effort = s .effort }
+abortAsked s = withAbort s true
 
 -- REAR without a service is not remembered
 unfoldable pub rearAsked : Service → Service
-rearAsked s = record { channel = s .channel; abort = s .abort; rear = inService (s .effort .progress); effort = s .effort }
+rearAsked s = withRear s (inService (s .effort .progress))
 
 -- "Writing CHER 1 to the channel (abort)"
 unfoldable pub aborts : Service → ℕ → ℕ → Bool

@@ -7,13 +7,14 @@ use mathlib.Core.Bool.{Bool, true, false}
 use mathlib.Core.List.{List}
 use lib.ListN.{getD}
 use Rattle.line.specs.Bits.{pick}
+use Rattle.rules.specs.Definitions.Setters.{withEffort, withReport, withLine, withReception, withService}
 use Rattle.rules.specs.Definitions.Registers.{lineControl, transmitControl, diagnosisControl, autonomous, sampled}
 use Rattle.rules.specs.Definitions.Reception.{underWay, commandEnded, winnerTaken}
 use Rattle.rules.specs.Definitions.Hearing.{lineAfter, receptionAfter, hearFrame, hearQuiet, receiverLevel}
 use Rattle.rules.specs.Definitions.Delivery.{deliveryOf, memoryDelivered, reportHeard, reportDelivered}
 use Rattle.rules.specs.Definitions.Attempt.{levelAt, judge, advance}
-use Rattle.rules.specs.Definitions.Service.{roleOf, withEffort, endingOf, settled, memoryEnded, reportSending, reportJudged, reportEnded, choose, started, hearOwn}
-use Rattle.rules.specs.Definitions.State.{isActive, serving, withReport, withService, idleDue}
+use Rattle.rules.specs.Definitions.Service.{roleOf, endingOf, settled, memoryEnded, reportSending, reportJudged, reportEnded, choose, started, hearOwn}
+use Rattle.rules.specs.Definitions.State.{isActive, serving, idleDue}
 use Rattle.rules.specs.declared.Report.{Report}
 use Rattle.rules.specs.declared.Reception.{Reception}
 use Rattle.rules.specs.declared.Hearing.{Hearing}
@@ -76,13 +77,9 @@ memoryJudged m k w h = memoryEnded (ending k w) (memoryDelivered (delivers w h (
 
 unfoldable pub coreJudged : List ℕ → Core → Verdict → Hearing → ℕ → Core
 coreJudged m k w h v =
-    record {
-      activity = k .activity;
-      report = reportAfter k w h;
-      line = lineAfter h (k .line) v;
-      reception = receptionJudged m h (k .reception) v;
-      service = settled (ending k w) (serviceJudged w (k .service));
-    }
+    withService
+    (withReception (withLine (withReport k (reportAfter k w h)) (lineAfter h (k .line) v)) (receptionJudged m h (k .reception) v))
+    (settled (ending k w) (serviceJudged w (k .service)))
 
 -- ---- what follows
 

@@ -4,6 +4,7 @@
 use mathlib.Core.Bool.{Bool, true, false}
 use lib.Dec.{leb}
 use Rattle.line.specs.Bits.{pick}
+use Rattle.rules.specs.Definitions.Setters.{withActivity, withLine, withReception, withService}
 use Rattle.rules.specs.Definitions.Registers.{both, resetReport}
 use Rattle.rules.specs.Definitions.Reception.{unsettled, quiet}
 use Rattle.rules.specs.Definitions.Attempt.{inService}
@@ -72,16 +73,7 @@ unfoldable pub inRange : Core → Bool
 inRange k =
     both (reportInRange (k .report)) (both (lineInRange (k .line)) (both (receptionInRange (k .reception)) (serviceInRange (k .service))))
 
--- ---- the state anew, but for some of its parts
-
-unfoldable pub withActivity : Core → Activity → Core
-withActivity k a = record { activity = a; report = k .report; line = k .line; reception = k .reception; service = k .service }
-
-unfoldable pub withReport : Core → Report → Core
-withReport k x = record { activity = k .activity; report = x; line = k .line; reception = k .reception; service = k .service }
-
-unfoldable pub withService : Core → Service → Core
-withService k s = record { activity = k .activity; report = k .report; line = k .line; reception = k .reception; service = s }
+-- ---- reset
 
 -- "Reset .. resets the rest to idle mode."
 unfoldable pub resetCore : Core
@@ -92,7 +84,7 @@ resetCore =
 
 -- "drops a frame under way and makes the next level recessive"
 unfoldable pub idled : Core → Core
-idled k = record { activity = inMode Idle false; report = k .report; line = k .line; reception = quiet; service = k .service }
+idled k = withReception (withActivity k (inMode Idle false)) quiet
 
 -- "Idle waits until the service ends; with no service it acts at once"
 unfoldable pub idleDue : Core → Core
@@ -100,7 +92,7 @@ idleDue k = pick (k .activity .waiting) (pick (serving (k .service)) k (idled k)
 
 -- "Sleep acts at once": mode, service, frame and level go; registers and flags stay
 unfoldable pub slept : Core → Core
-slept k = record { activity = inMode Asleep false; report = k .report; line = k .line; reception = quiet; service = resting }
+slept k = withService (withReception (withActivity k (inMode Asleep false)) quiet) resting
 
 unfoldable pub idleAsked : Core → Core
 idleAsked k = pick (isActive (k .activity .mode)) (withActivity k (inMode Active true)) k
@@ -108,5 +100,4 @@ idleAsked k = pick (isActive (k .activity .mode)) (withActivity k (inMode Active
 -- "ACTI in active mode only cancels a waiting idle (house)"
 unfoldable pub activated : Core → Core
 activated k =
-    pick (isActive (k .activity .mode)) (withActivity k (inMode Active false))
-    (record { activity = inMode Active false; report = k .report; line = unsettled; reception = k .reception; service = k .service })
+    pick (isActive (k .activity .mode)) (withActivity k (inMode Active false)) (withLine (withActivity k (inMode Active false)) unsettled)

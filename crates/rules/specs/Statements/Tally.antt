@@ -44,6 +44,43 @@ pub record Tally : Type 0 where
 unfoldable pub noFrame : Frame
 noFrame = record { identifier = 0; command = 0; bytes = []; acknowledge = false }
 
+-- the tally anew, but for one field: the one place that lists its fields
+abbrev pub withStand : Tally → Stand → Tally
+withStand t s =
+    record { stand = s; channel = t .channel; frame = t .frame; setting = t .setting; lost = t .lost; errors = t .errors; slots = t .slots; abort = t .abort; rear = t .rear }
+
+abbrev pub withChannel : Tally → ℕ → Tally
+withChannel t n =
+    record { stand = t .stand; channel = n; frame = t .frame; setting = t .setting; lost = t .lost; errors = t .errors; slots = t .slots; abort = t .abort; rear = t .rear }
+
+abbrev pub withFrame : Tally → Frame → Tally
+withFrame t f =
+    record { stand = t .stand; channel = t .channel; frame = f; setting = t .setting; lost = t .lost; errors = t .errors; slots = t .slots; abort = t .abort; rear = t .rear }
+
+abbrev pub withSetting : Tally → ℕ → Tally
+withSetting t n =
+    record { stand = t .stand; channel = t .channel; frame = t .frame; setting = n; lost = t .lost; errors = t .errors; slots = t .slots; abort = t .abort; rear = t .rear }
+
+abbrev pub withLost : Tally → ℕ → Tally
+withLost t n =
+    record { stand = t .stand; channel = t .channel; frame = t .frame; setting = t .setting; lost = n; errors = t .errors; slots = t .slots; abort = t .abort; rear = t .rear }
+
+abbrev pub withErrors : Tally → ℕ → Tally
+withErrors t n =
+    record { stand = t .stand; channel = t .channel; frame = t .frame; setting = t .setting; lost = t .lost; errors = n; slots = t .slots; abort = t .abort; rear = t .rear }
+
+abbrev pub withSlots : Tally → ℕ → Tally
+withSlots t n =
+    record { stand = t .stand; channel = t .channel; frame = t .frame; setting = t .setting; lost = t .lost; errors = t .errors; slots = n; abort = t .abort; rear = t .rear }
+
+abbrev pub withAbort : Tally → Bool → Tally
+withAbort t b =
+    record { stand = t .stand; channel = t .channel; frame = t .frame; setting = t .setting; lost = t .lost; errors = t .errors; slots = t .slots; abort = b; rear = t .rear }
+
+abbrev pub withRear : Tally → Bool → Tally
+withRear t b =
+    record { stand = t .stand; channel = t .channel; frame = t .frame; setting = t .setting; lost = t .lost; errors = t .errors; slots = t .slots; abort = t .abort; rear = b }
+
 -- no service
 unfoldable pub none : Tally
 none = record { stand = away; channel = 0; frame = noFrame; setting = 0; lost = 0; errors = 0; slots = 0; abort = false; rear = false }
@@ -89,26 +126,15 @@ verdict f k d v =
 
 -- ---- a slot
 
-unfoldable pub tallied : Tally → Stand → ℕ → ℕ → ℕ → Tally
-tallied t s lost errors slots =
-    record {
-      stand = s;
-      channel = t .channel;
-      frame = t .frame;
-      setting = t .setting;
-      lost = t .lost + lost;
-      errors = t .errors + errors;
-      slots = t .slots + slots;
-      abort = t .abort;
-      rear = t .rear;
-    }
+unfoldable pub spentT : Tally → Stand → Tally
+spentT t s = withSlots (withStand t s) (t .slots + 1)
 
 -- "Each accepted slot of an attempt adds 1 to slots .. An attempt lost there adds 1 to C, one that fails there 1 to errors."
 unfoldable pub judgedAs : Verdict → Tally → ℕ → List ℕ → Tally
-judgedAs goes t start levels = tallied t (inside start levels) 0 0 1
-judgedAs contended t start levels = tallied t between 1 0 1
-judgedAs failed t start levels = tallied t between 0 1 1
-judgedAs sent t start levels = tallied t away 0 0 1
+judgedAs goes t start levels = spentT t (inside start levels)
+judgedAs contended t start levels = withLost (spentT t between) (t .lost + 1)
+judgedAs failed t start levels = withErrors (spentT t between) (t .errors + 1)
+judgedAs sent t start levels = spentT t away
 
 unfoldable pub countedIn : Stand → Tally → ℕ → ℕ → Tally
 countedIn away t d v = t
@@ -135,17 +161,7 @@ endedT t = endedIn (t .stand) t
 -- "The choice sets the fixed frame, n, R (MR) and zero counts."
 unfoldable pub chosenT : List ℕ → ℕ → Tally
 chosenT m c =
-    record {
-      stand = between;
-      channel = c;
-      frame = sentFrame m c;
-      setting = retrySetting (getD m transmitControl 0);
-      lost = 0;
-      errors = 0;
-      slots = 0;
-      abort = false;
-      rear = false;
-    }
+    withSetting (withFrame (withChannel (withStand none between) c) (sentFrame m c)) (retrySetting (getD m transmitControl 0))
 
 unfoldable pub choiceT : List ℕ → Choice → Tally
 choiceT m Nothing = none
@@ -161,15 +177,12 @@ chooseIn (inside start levels) t m active r = t
 unfoldable pub chooseT : Tally → List ℕ → Bool → Reception → Tally
 chooseT t m active r = chooseIn (t .stand) t m active r
 
-unfoldable pub standing : Tally → Stand → Tally
-standing t s = tallied t s 0 0 0
-
 -- "MT 1 starts at once on a free line; either type joins a clean start sequence."
 unfoldable pub startIn : Stand → Tally → List ℕ → Line → Reception → Tally
 startIn away t m l r = t
 startIn between t m l r =
-    pick (startEnded r) (standing t (opening 10))
-    (pick (underWay (r .place)) t (pick (both (autonomous (getD m transmitControl 0)) (free l)) (standing t (opening 0)) t))
+    pick (startEnded r) (withStand t (opening 10))
+    (pick (underWay (r .place)) t (pick (both (autonomous (getD m transmitControl 0)) (free l)) (withStand t (opening 0)) t))
 startIn (opening start) t m l r = t
 startIn (inside start levels) t m l r = t
 
@@ -184,25 +197,11 @@ isAway between = false
 isAway (opening start) = false
 isAway (inside start levels) = false
 
-unfoldable pub asking : Tally → Bool → Bool → Tally
-asking t abort rear =
-    record {
-      stand = t .stand;
-      channel = t .channel;
-      frame = t .frame;
-      setting = t .setting;
-      lost = t .lost;
-      errors = t .errors;
-      slots = t .slots;
-      abort = abort;
-      rear = rear;
-    }
-
 -- "Writing CHER 1 to the channel (abort) or REAR"
 unfoldable pub asks : Tally → ℕ → ℕ → Tally
 asks t address v =
-    pick (eqb address command) (pick (asksRearbitration v) (asking t (t .abort) true) t)
-    (pick (both (eqb address (base (t .channel) + 3)) (cher v)) (asking t true (t .rear)) t)
+    pick (eqb address command) (pick (asksRearbitration v) (withRear t true) t)
+    (pick (both (eqb address (base (t .channel) + 3)) (cher v)) (withAbort t true) t)
 
 unfoldable pub askedIn : Stand → Tally → ℕ → ℕ → Tally
 askedIn away t address v = t

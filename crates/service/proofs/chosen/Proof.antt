@@ -1,10 +1,10 @@
 use borrow.Author.Needs.{needs}
-use Rattle.rules.specs.Definitions.Service.{chosen}
+use Rattle.rules.specs.Definitions.Service.{chosen, resting}
 use Rattle.service.proofs.chosen.Statement.{statement}
 use Rattle.service.proofs.chosen.Tie as tie
 
 pub chosen-spec : {M : Type 1} → statement M
-unfolding chosen
+unfolding chosen resting
 chosen-spec =
     tie.close (tie.spec
     (λ c κs. tt)

@@ -1,10 +1,9 @@
-use Rattle.rules.specs.Definitions.Service.{opened, withEffort}
-use Rattle.rules.specs.Definitions.Attempt.{withProgress}
+use Rattle.rules.specs.Definitions.Service.{opened}
 use Rattle.service.proofs.opened.Statement.{statement}
 use Rattle.service.proofs.opened.Tie as tie
 
 pub opened-spec : {M : Type 1} → statement M
-unfolding opened withEffort withProgress
+unfolding opened
 opened-spec =
     tie.close (tie.spec
     (λ c κs. tt)

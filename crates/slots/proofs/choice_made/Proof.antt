@@ -1,10 +1,9 @@
 use Rattle.rules.specs.Definitions.Slots.{choiceMade}
-use Rattle.rules.specs.Definitions.State.{withService, withReport}
 use Rattle.slots.proofs.choice_made.Statement.{statement}
 use Rattle.slots.proofs.choice_made.Tie as tie
 
 pub choice-made-spec : {M : Type 1} → statement M
-unfolding choiceMade withService withReport
+unfolding choiceMade
 choice-made-spec =
     tie.close (tie.spec
     (λ c κs. tt)
