@@ -4,6 +4,7 @@ ghost use Prim.Native.Nat.{_+_, _*_, _/_, _%_};
 ghost use lib.ListN.{getD};
 ghost use Rattle.line.specs.Check as check;
 ghost use Rattle.line.specs.Frame as frame;
+ghost use Rattle.rules.specs.Definitions.Longest as longest_rule;
 ghost use Rattle.rules.specs.Definitions.Hearing as rule;
 use registers::Code;
 use rules::Hearing;
@@ -13,7 +14,7 @@ use rules::Reception;
 
 // Seven nibbles, and two for each of `longest` data bytes.
 fn most_nibbles(longest: u8) -> u16
-    ensures { λ r. ⌜ r ≡ rule.mostNibbles longest ⌝ }
+    ensures { λ r. ⌜ r ≡ longest_rule.mostNibbles longest ⌝ }
 {
     7 + 2 * (longest as u16)
 }

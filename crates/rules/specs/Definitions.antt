@@ -1,5 +1,6 @@
 -- What a reader must believe, in the order of document 01: each definition names its sentence.
 pub mod Setters
+pub mod Longest
 pub mod Registers
 pub mod Channels
 pub mod Mailbox

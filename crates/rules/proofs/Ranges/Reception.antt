@@ -16,8 +16,9 @@ use Rattle.rules.specs.Definitions.Reception.{unsettled, afterGood, take
 use Rattle.rules.proofs.Ranges.Limits.{ReceptionLimits, ReportLimits}
 use Rattle.rules.proofs.Receiving.Rows.{nibble-below}
 use Rattle.rules.proofs.Ranges.Bytes.{at-below, zeros-below, stored-below, retagged-below, cher-below, chrx-below, nobody-limits, winner-limits}
-use Rattle.rules.specs.Definitions.Hearing.{lineAfter, receptionAfter, whole, replyRequest, checkReceived, checkDue, mostNibbles, hearEndOfData, hearSecondHalf, hearBody, hearStart, acknowledges, acknowledgeWrong, hearAcknowledge, hearEnd, hearIn, hearFrame, hearQuiet}
+use Rattle.rules.specs.Definitions.Hearing.{lineAfter, receptionAfter, whole, replyRequest, checkReceived, checkDue, hearEndOfData, hearSecondHalf, hearBody, hearStart, acknowledges, acknowledgeWrong, hearAcknowledge, hearEnd, hearIn, hearFrame, hearQuiet}
 use Rattle.rules.specs.Definitions.Delivery.{memoryStored, memoryDelivered, receiveError, reportStored, reportHeard, reportDelivered}
+use Rattle.rules.specs.Definitions.Longest.{mostNibbles}
 use Rattle.rules.specs.Definitions.Slots.{receptionJudged}
 use Rattle.rules.specs.declared.Report.{Report}
 use Rattle.rules.specs.declared.Line.{Line}

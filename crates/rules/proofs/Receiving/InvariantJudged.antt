@@ -16,7 +16,8 @@ use Rattle.line.proofs.Laws.{bits-length, carried-length, picked}
 use Rattle.rules.specs.Definitions.Registers.{both, FV, CV}
 use Rattle.rules.specs.Definitions.Channels.{acknowledgeAsked}
 use Rattle.rules.specs.Definitions.Reception.{dataCount}
-use Rattle.rules.specs.Definitions.Hearing.{mostNibbles, whole, replyRequest, checkReceived, checkDue, hearEndOfData, hearSecondHalf, hearBody, hearStart, acknowledges, acknowledgeWrong, hearAcknowledge}
+use Rattle.rules.specs.Definitions.Longest.{mostNibbles}
+use Rattle.rules.specs.Definitions.Hearing.{whole, replyRequest, checkReceived, checkDue, hearEndOfData, hearSecondHalf, hearBody, hearStart, acknowledges, acknowledgeWrong, hearAcknowledge}
 use Rattle.rules.proofs.Ranges.Bytes.{at-below}
 use Rattle.rules.specs.Statements.Valid.{Valid, low, owes}
 use Rattle.rules.proofs.Receiving.Invariant.{InStart, InBody, InAcknowledge, InEnd}
@@ -72,7 +73,7 @@ pair b v x (p ∷ q ∷ r ∷ y ∷ d) t h e =
 
 -- the count of a frame's nibbles
 count-whole : (j n : ℕ) → j ≡ 7 + 2 * n → n ≤ 30 → (whole j 30 ≡ true) × (dataCount j ≡ n)
-unfolding whole dataCount mostNibbles
+unfolding whole dataCount
 count-whole j n e h =
     (rw (le-ltb j 7 (omega arith), ne-eqb (j % 2) 0 (λ z. omega arith)) (le-leb j 67 (omega arith)), rw (le-ltb j 7 (omega arith)) (omega arith))
 
@@ -105,7 +106,7 @@ module _ (f : Frame) (fits : Fits 30 f) (request : replyRequest (low f) ≡ true
       no-data false h = refl
 
   second-goes : r .place .at ≡ 4 → (v : ℕ) (x : List ℕ) → s ++ (v ∷ x) ≡ slots f → hearSecondHalf r 30 v ≡ Follows
-  unfolding hearSecondHalf mostNibbles
+  unfolding hearSecondHalf
   second-goes l v x e =
       let k : Opens (take (4 * r .nibbles) (byteBits (r .bytes))) (carried f) (bits 4 (r .bits) ++ (v ∷ x)) (closing f) = rw l at (body-opens f r s t (v ∷ x) e) in
       go (k .rest) (k .bits-are) (pair (r .bits) v x (k .rest) (closing f) (k .long) (k .slots-are))

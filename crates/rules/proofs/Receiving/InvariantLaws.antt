@@ -19,7 +19,8 @@ use Rattle.rules.specs.Definitions.Registers.{both, FV, CV, FCSE}
 use Rattle.rules.specs.Definitions.Channels.{acknowledgeAsked}
 use Rattle.rules.specs.Definitions.Mailbox.{codedBytes}
 use Rattle.rules.specs.Definitions.Reception.{begun, quiet, atPlace, underWay, isUnderWay, isBody, inBody, behind, commandEnded, moved, entered, bitTaken, withNibble, bitsLaid, dataEnded, nibbleTaken, followStart, followBody, followAcknowledge, followEnd, followIn, followed, winnerTaken, dataCount}
-use Rattle.rules.specs.Definitions.Hearing.{mostNibbles, whole, replyRequest, checkReceived, checkDue, hearEndOfData, hearSecondHalf, hearBody, hearStart, fits, acknowledges, acknowledgeWrong, hearAcknowledge, hearEnd, hearIn, hearFrame, acknowledgeLevel, receiverIn, receiverLevel}
+use Rattle.rules.specs.Definitions.Longest.{mostNibbles}
+use Rattle.rules.specs.Definitions.Hearing.{whole, replyRequest, checkReceived, checkDue, hearEndOfData, hearSecondHalf, hearBody, hearStart, fits, acknowledges, acknowledgeWrong, hearAcknowledge, hearEnd, hearIn, hearFrame, acknowledgeLevel, receiverIn, receiverLevel}
 use Rattle.rules.specs.Statements.Valid.{Valid, high, low}
 use Rattle.rules.proofs.Sending.Follow.{left}
 use Rattle.rules.proofs.Receiving.Invariant.{frameHeld, InAcknowledge, InEnd, InvariantIn, Invariant, Whole, Owed}

@@ -17,7 +17,8 @@ use Rattle.rules.specs.Definitions.Registers.{both, FV, CV, FCSE}
 use Rattle.rules.specs.Definitions.Channels.{acknowledgeAsked}
 use Rattle.rules.specs.Definitions.Mailbox.{codedBytes}
 use Rattle.rules.specs.Definitions.Reception.{atPlace, moved, entered, bitTaken, withNibble, moreNibbles, bitsLaid, dataEnded, nibbleTaken, followStart, followBody, followAcknowledge, followEnd, followIn, followed, dataCount}
-use Rattle.rules.specs.Definitions.Hearing.{mostNibbles, whole, replyRequest, checkReceived, checkDue, hearEndOfData, hearSecondHalf, hearBody, hearStart, fits, acknowledges, acknowledgeWrong, hearAcknowledge, hearEnd, hearIn, hearFrame}
+use Rattle.rules.specs.Definitions.Longest.{mostNibbles}
+use Rattle.rules.specs.Definitions.Hearing.{whole, replyRequest, checkReceived, checkDue, hearEndOfData, hearSecondHalf, hearBody, hearStart, fits, acknowledges, acknowledgeWrong, hearAcknowledge, hearEnd, hearIn, hearFrame}
 use Rattle.rules.proofs.Ranges.Bytes.{zeros-below}
 use Rattle.rules.specs.Statements.Valid.{low, owes}
 use Rattle.rules.proofs.Receiving.Invariant.{frameHeld, InStart, InBody, Carried, InAcknowledge, InEnd, InvariantIn, Invariant}
@@ -54,7 +55,7 @@ spared false y code e = (refl, e)
 
 -- a whole count of nibbles is that of a frame
 pub whole-count : (j : ℕ) → whole j 30 ≡ true → (j ≡ 7 + 2 * dataCount j) × (dataCount j ≤ 30)
-unfolding whole dataCount mostNibbles
+unfolding whole dataCount
 whole-count j e = go (ltb j 7) refl (eqb (j % 2) 0) refl e
   where
     go : (a : Bool) → ltb j 7 ≡ a → (b : Bool) → eqb (j % 2) 0 ≡ b → pick a false (pick b false (leb j 67)) ≡ true → (j ≡ 7 + 2 * pick a 0 ((j - 7) / 2)) × (pick a 0 ((j - 7) / 2) ≤ 30)
@@ -185,7 +186,7 @@ module _ (r : Reception) (s : List ℕ) (v : ℕ) (small : v < 2) where
       }
 
   body-step : r .place .phase ≡ Body → InBody r s → hearBody r 30 v ≡ Follows → Invariant (followBody r v) (s ++ (v ∷ []))
-  unfolding hearBody hearSecondHalf hearEndOfData followBody mostNibbles
+  unfolding hearBody hearSecondHalf hearEndOfData followBody
   body-step p t = plain (ltb (r .place .at) 4) refl
     where
       n : ℕ

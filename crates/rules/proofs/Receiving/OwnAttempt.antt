@@ -18,7 +18,8 @@ use Rattle.line.specs.declared.Half.the-variants.{Plain, First, Second}
 use Rattle.line.specs.declared.Part.the-variants as part
 use Rattle.rules.specs.Definitions.Mailbox.{coded}
 use Rattle.rules.specs.Definitions.Reception.{atPlace, commandEnded, moved, entered, bitTaken, moreNibbles, bitsLaid, dataEnded, nibbleTaken, followStart, followBody, followIn, followed, winnerTaken}
-use Rattle.rules.specs.Definitions.Hearing.{receptionAfter, mostNibbles, hearSecondHalf, hearBody, hearStart, hearIn, hearFrame}
+use Rattle.rules.specs.Definitions.Longest.{mostNibbles}
+use Rattle.rules.specs.Definitions.Hearing.{receptionAfter, hearSecondHalf, hearBody, hearStart, hearIn, hearFrame}
 use Rattle.rules.specs.Definitions.Attempt.{sentSlots, levelAt, due, overdriven, violated, recessiveLost, difference, judgeSlot}
 use Rattle.rules.specs.Definitions.Slots.{receptionJudged}
 use Rattle.rules.proofs.Sending.Frames.{level-coded}
@@ -158,7 +159,7 @@ module _ (x : Coded) (k : ℕ) (r : Reception) (v : ℕ) where
   hear-open p a = rw (p, lt-ltb (r .place .at) 4 a)
 
   hear-second : r .place .phase ≡ Body → r .place .at ≡ 4 → r .nibbles < 67 → (v ≡ r .bits % 2 → ⊥) → hearFrame r 30 v ≡ Follows
-  unfolding hearFrame hearIn hearBody hearSecondHalf mostNibbles
+  unfolding hearFrame hearIn hearBody hearSecondHalf
   hear-second p a n d = rw (p, a, ne-eqb v (r .bits % 2) d, lt-ltb (r .nibbles) (7 + 2 * 30) n)
 
   second-unlike : Own x → k < 30 + 10 * x .n → v ≡ levelAt x k → k ≡ 10 + 5 * r .nibbles + r .place .at → r .place .at ≡ 4 → r .bits % 2 ≡ levelAt x (k - 1) → v ≡ r .bits % 2 → ⊥

@@ -9,6 +9,7 @@ use lib.ListN.{getD, take}
 use Rattle.line.specs.Bits.{pick}
 use Rattle.line.specs.Check.{check}
 use Rattle.line.specs.Frame.{start, byteBits}
+use Rattle.rules.specs.Definitions.Longest.{mostNibbles}
 use Rattle.rules.specs.Definitions.Registers.{both, FV, CV, FCSE}
 use Rattle.rules.specs.Definitions.Channels.{extension, acknowledgeAsked, reads, remote}
 use Rattle.rules.specs.Definitions.Reception.{unsettled, afterGood, takesStart, counted, quiet, followed, dataCount}
@@ -35,10 +36,7 @@ receptionAfter Good r v = quiet
 
 -- ---- identifier to end of data
 
--- "an odd number of whole nibbles, 7 to 67": 67 is 7 and two for each of `longest` data bytes
-unfoldable pub mostNibbles : ℕ → ℕ
-mostNibbles longest = 7 + 2 * longest
-
+-- "Exactly an odd number of whole nibbles, 7 to 67, stands before the last three bits."
 unfoldable pub whole : ℕ → ℕ → Bool
 whole nibbles longest = pick (ltb nibbles 7) false (pick (eqb (nibbles % 2) 0) false (leb nibbles (mostNibbles longest)))
 

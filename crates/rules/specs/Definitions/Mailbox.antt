@@ -9,6 +9,7 @@ use lib.ListN.{length, getD, set, take, drop, replicate}
 use Rattle.line.specs.Bits.{pick}
 use Rattle.line.specs.Check.{check}
 use Rattle.line.specs.Frame.{Frame, covered}
+use Rattle.rules.specs.Definitions.Longest.{capacity}
 use Rattle.rules.specs.Definitions.Registers.{lineControl, transmitControl, diagnosisControl, interruptEnable}
 use Rattle.rules.specs.Definitions.Channels.{base, bufferOf, twelve, withCher, withChtx, withChrx}
 use Rattle.rules.specs.declared.Coded.{Coded}
@@ -35,9 +36,9 @@ unfoldable pub mailboxBytes : List ℕ → ℕ → ℕ → ℕ → List ℕ
 mailboxBytes m pointer k zero = []
 mailboxBytes m pointer k (suc n) = getD m (mailboxAt pointer k) 0 ∷ mailboxBytes m pointer (k + 1) n
 
--- a length M_L holds the status byte and M_L - 1 data bytes
+-- a length M_L holds the status byte and M_L - 1 data bytes; the remainder is there for numbers above the largest M_L only
 unfoldable pub dataIn : ℕ → ℕ
-dataIn length = pick (eqb length 0) 0 ((length - 1) % 31)
+dataIn length = pick (eqb length 0) 0 ((length - 1) % (capacity + 1))
 
 -- "its frame has the channel's tag and command and M_L - 1 data bytes from pointer + 1"; "The fixed frame has both acknowledge slots recessive"
 unfoldable pub sentFrame : List ℕ → ℕ → Frame
@@ -49,11 +50,11 @@ sentFrame m c =
       acknowledge = false;
     }
 
--- identifier, command, data and check of a frame as bytes, a zero bit behind the check, and zeros up to 34 bytes
+-- identifier, command, data and check of a frame as bytes, a zero bit behind the check, and zeros up to the longest frame
 unfoldable pub codedBytes : Frame → List ℕ
 codedBytes f =
     (f .identifier / 16) ∷ (f .identifier % 16 * 16 + f .command)
-    ∷ (f .bytes ++ ((check (covered f) / 128) ∷ (check (covered f) % 128 * 2) ∷ replicate (30 - length (f .bytes)) 0))
+    ∷ (f .bytes ++ ((check (covered f) / 128) ∷ (check (covered f) % 128 * 2) ∷ replicate (capacity - length (f .bytes)) 0))
 
 unfoldable pub coded : Frame → Coded
 coded f = record { n = length (f .bytes); bytes = codedBytes f }

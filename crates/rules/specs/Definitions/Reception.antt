@@ -7,6 +7,7 @@ use mathlib.Core.List.{List}
 use lib.Dec.{eqb, ltb, leb}
 use lib.ListN.{getD, set, replicate}
 use Rattle.line.specs.Bits.{pick}
+use Rattle.rules.specs.Definitions.Longest.{capacity, mostNibbles}
 use Rattle.rules.specs.Definitions.Channels.{nobody, winnerFor}
 use Rattle.rules.specs.declared.Winner.{Winner}
 use Rattle.rules.specs.declared.Line.{Line}
@@ -44,7 +45,7 @@ unfoldable pub atPlace : Phase → ℕ → Place
 atPlace phase at = record { phase = phase; at = at }
 
 unfoldable pub quiet : Reception
-quiet = record { place = atPlace Quiet 0; nibbles = 0; bits = 0; bytes = replicate 34 0; winner = nobody }
+quiet = record { place = atPlace Quiet 0; nibbles = 0; bits = 0; bytes = replicate (capacity + 4) 0; winner = nobody }
 
 -- "RXG while a frame, start included, is under way"
 unfoldable pub isUnderWay : Phase → Bool
@@ -108,15 +109,15 @@ entered r phase = withBits (withPlace r (atPlace phase 0)) 0
 unfoldable pub bitTaken : Reception → ℕ → Reception
 bitTaken r v = withBits (moved r) (r .bits % 8 * 2 + v % 2)
 
--- nibble k of the bytes, high half first; the 34 bytes hold nibbles 0 to 67, and `% 34` is there for other numbers only
+-- nibble k of the bytes, high half first; the bytes hold all nibbles of the longest frame, and the remainder is there for other numbers only
 unfoldable pub withNibble : List ℕ → ℕ → ℕ → List ℕ
 withNibble bytes k nibble =
-    pick (eqb (k % 2) 0) (set bytes (k / 2 % 34) (nibble % 16 * 16))
-    (set bytes (k / 2 % 34) (getD bytes (k / 2 % 34) 0 / 16 * 16 + nibble % 16))
+    pick (eqb (k % 2) 0) (set bytes (k / 2 % (capacity + 4)) (nibble % 16 * 16))
+    (set bytes (k / 2 % (capacity + 4)) (getD bytes (k / 2 % (capacity + 4)) 0 / 16 * 16 + nibble % 16))
 
--- the count stops at its largest, 67
+-- the count stops at its largest
 unfoldable pub moreNibbles : ℕ → ℕ
-moreNibbles n = pick (ltb n 67) (n + 1) 67
+moreNibbles n = pick (ltb n (mostNibbles capacity)) (n + 1) (mostNibbles capacity)
 
 -- the four bits that were taken, laid behind the whole nibbles
 unfoldable pub bitsLaid : Reception → Reception

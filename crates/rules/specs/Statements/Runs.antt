@@ -6,6 +6,7 @@ use Rattle.line.specs.LineCode as llinecode
 use Rattle.line.specs.Check as lcheck
 use Rattle.line.specs.Frame as lframe
 use Rattle.line.specs.Layout as llayout
+use Rattle.rules.specs.Definitions.Longest as rlongest
 use Rattle.rules.specs.Definitions.Registers as rregisters
 use Rattle.rules.specs.Definitions.Channels as rchannels
 use Rattle.rules.specs.Definitions.Mailbox as rmailbox
