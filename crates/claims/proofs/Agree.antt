@@ -13,6 +13,7 @@ use Rattle.line.proofs.Laws.{slots-length}
 use Rattle.codec.specs.Decode.{frame}
 use Rattle.codec.proofs.Exact.{codec}
 use Rattle.rules.specs.Definitions.Channels.{nobody, winnerFor}
+use Rattle.rules.specs.Definitions.Longest.{capacity}
 use Rattle.rules.specs.Definitions.Reception.{begun}
 use Rattle.rules.specs.Definitions.Hearing.{hearFrame}
 use Rattle.rules.specs.Statements.Valid.{high, low, owes, Valid}
@@ -58,7 +59,7 @@ module _ (m : List ℕ) where
   ends-here : (r : Reception) (l : Log) → Following r l → Late m l → (v : ℕ) → v < 2 → hearFrame r 30 v ≡ Good → Ends m l (v ∷ [])
   unfolding size
   ends-here r l f i v h e =
-      let w : Whole r (l .samples ++ (v ∷ [])) = invariant-good r (l .samples) (f .invariant) v h e in
+      let w : Whole capacity r (l .samples ++ (v ∷ [])) = invariant-good r (l .samples) (f .invariant) v h e in
       let a = length-append (l .samples) (v ∷ []) in
       let b : length (l .samples ++ (v ∷ [])) ≡ size (length (w .frame .bytes)) = ap length (w .slots-are) ∙ slots-length (w .frame) in
       let k : l .held ≡ m = i (omega arith) in

@@ -126,7 +126,7 @@ both-ways : (a b : Bool) → a ≡ true → b ≡ true → both a b ≡ true
 both-ways a b e d = rw (e, d)
 
 module _ (f : Flags) (enable : ℕ) where
-  -- a flag that is 1 and winnerTaken by the enable byte
+  -- a flag that is 1 and named by the enable byte
   at-place : (k : ℕ) (flag : Bool) (digit : ℕ) → bitAt (interruptStatus f) k ≡ bit flag → (digit ≡ 1 → bitAt enable k ≡ 1) → both flag (eqb digit 1) ≡ true → Shared (interruptStatus f) enable
   at-place k flag digit p q e =
       let b = both-true flag (eqb digit 1) e in

@@ -15,6 +15,7 @@ use Rattle.line.proofs.Laws.{bits-length, code-length, slots-length, picked}
 use Rattle.rules.specs.Definitions.Setters.{withReport, withService}
 use Rattle.rules.specs.Definitions.Channels.{base}
 use Rattle.rules.specs.Definitions.Mailbox.{stored, markedCher, markedChtx}
+use Rattle.rules.specs.Definitions.Longest.{capacity}
 use Rattle.rules.specs.Definitions.Reception.{atPlace, isUnderWay, takesStart, underWay, commandEnded, begun, moved, entered, bitTaken, bitsLaid, dataEnded, nibbleTaken, followStart, followBody, followIn, followed, winnerTaken, followAcknowledge, followEnd}
 use Rattle.rules.specs.Definitions.Hearing.{receptionAfter, hearFrame, hearQuiet, acknowledges, acknowledgeLevel, receiverIn, receiverLevel, fits}
 use Rattle.rules.specs.Statements.Valid.{high, low, owes, Valid}
@@ -109,7 +110,7 @@ unfolding memoryJudged ending endingOf serviceJudged advance delivers
 unjudged-memory m k h g = rw g (unfold memoryEnded in refl)
 
 -- what a good frame does to it
-good-memory : (m : List ℕ) (r : Reception) {s : List ℕ} (w : Whole r s) → memoryDelivered (deliveryOf hearing.Good r) m r ≡ received m (r .winner) (w .frame)
+good-memory : (m : List ℕ) (r : Reception) {s : List ℕ} (w : Whole capacity r s) → memoryDelivered (deliveryOf hearing.Good r) m r ≡ received m (r .winner) (w .frame)
 unfolding deliveryOf deliveryTo delivered fits received
 good-memory m r w = rw (w .count-is) (go (r .winner .matched) (ltb (length (w .frame .bytes)) (r .winner .length)))
   where
@@ -120,7 +121,7 @@ good-memory m r w = rw (w .count-is) (go (r .winner .matched) (ltb (length (w .f
     go false b = unfold memoryDelivered in refl
 
 -- what it does to 0x07
-good-error : (x : Report) (r : Reception) {s : List ℕ} (w : Whole r s) → reportDelivered (deliveryOf hearing.Good r) (reportHeard hearing.Good x) r .error ≡ errorAfter (x .error) (r .winner) (w .frame)
+good-error : (x : Report) (r : Reception) {s : List ℕ} (w : Whole capacity r s) → reportDelivered (deliveryOf hearing.Good r) (reportHeard hearing.Good x) r .error ≡ errorAfter (x .error) (r .winner) (w .frame)
 unfolding deliveryOf deliveryTo delivered fits errorAfter reportHeard
 good-error x r w = rw (w .count-is) (go (r .winner .matched) (ltb (length (w .frame .bytes)) (r .winner .length)))
   where
@@ -333,7 +334,7 @@ module _ (c : Controller) (t : Tally) (l : Log) (i : Logs c l) (levels : ℕ) (y
   follows : Following (c .core .reception) l
   follows = let z = receiver-is c q in following-at (i .stands .stage) (z .0) (z .1)
 
-  invariant : Invariant (c .core .reception) (l .samples)
+  invariant : Invariant capacity (c .core .reception) (l .samples)
   invariant = follows .invariant
 
   hears-is : hears c levels ≡ hearFrame (c .core .reception) 30 (sampleOf c levels)
@@ -385,12 +386,12 @@ module _ (c : Controller) (t : Tally) (l : Log) (i : Logs c l) (levels : ℕ) (y
 -- ---- the acknowledge
 
 -- nine slots before the end of a frame the acknowledge's second slot is next
-module _ (r : Reception) (s : List ℕ) (f : Frame) (g : Fits 30 f) (o : owes (r .winner) f ≡ true) (rest : List ℕ) (nine : length rest ≡ 9) (e : s ++ rest ≡ slots f) where
+module _ (longest : ℕ) (r : Reception) (s : List ℕ) (f : Frame) (g : Fits longest f) (o : owes (r .winner) f ≡ true) (rest : List ℕ) (nine : length rest ≡ 9) (e : s ++ rest ≡ slots f) where
   so-long : length s ≡ 51 + 10 * length (f .bytes)
   unfolding size
   so-long = let a = length-append s rest in let b : length (s ++ rest) ≡ size (length (f .bytes)) = ap length e ∙ slots-length f in omega arith
 
-  body-short : InBody r s → ⊥
+  body-short : InBody longest r s → ⊥
   body-short t =
       let k = body-opens f r s t rest e in
       let a = ap length (k .slots-are) in
@@ -399,7 +400,7 @@ module _ (r : Reception) (s : List ℕ) (f : Frame) (g : Fits 30 f) (o : owes (r
       let h = code-length (k .rest) in
       omega (arith, bits-length (r .place .at) (r .bits), closing-length f, t .within, k .long)
 
-  owed-acknowledges : (t : InAcknowledge r s) → acknowledges r ≡ true
+  owed-acknowledges : (t : InAcknowledge longest r s) → acknowledges r ≡ true
   unfolding acknowledges owes
   owed-acknowledges t =
       let k = acknowledge-same f g r s t rest e in
@@ -409,7 +410,7 @@ module _ (r : Reception) (s : List ℕ) (f : Frame) (g : Fits 30 f) (o : owes (r
   unfolding acknowledgeLevel
   second-driven at a b = rw (a, b)
 
-  owed-in : (p : Phase) → InvariantIn p r s → receiverIn p r ≡ 0
+  owed-in : (p : Phase) → InvariantIn longest p r s → receiverIn p r ≡ 0
   unfolding InvariantIn receiverIn
   owed-in Quiet t = absurd t
   owed-in Start t = absurd (omega (arith, start-long r s t, so-long, t .within))
@@ -419,9 +420,9 @@ module _ (r : Reception) (s : List ℕ) (f : Frame) (g : Fits 30 f) (o : owes (r
       second-driven (r .place .at) (omega (arith, acknowledge-long r s t, so-long, k .count)) (owed-acknowledges t)
   owed-in End t = let k = end-same f g r s t rest e in absurd (omega (arith, end-long r s t, so-long, k .count))
 
-invariant-owed : (r : Reception) (s : List ℕ) → Invariant r s → (f : Frame) → Fits 30 f → owes (r .winner) f ≡ true → (rest : List ℕ) → length rest ≡ 9 → s ++ rest ≡ slots f → receiverLevel r ≡ 0
-unfolding Invariant receiverLevel
-invariant-owed r s t f g o rest n e = owed-in r s f g o rest n e (r .place .phase) t
+invariant-owed : {longest : ℕ} (r : Reception) (s : List ℕ) → Invariant longest r s → (f : Frame) → Fits longest f → owes (r .winner) f ≡ true → (rest : List ℕ) → length rest ≡ 9 → s ++ rest ≡ slots f → receiverLevel r ≡ 0
+unfolding receiverLevel
+invariant-owed {longest} r s t f g o rest n e = owed-in longest r s f g o rest n e (r .place .phase) (t .holds)
 
 module _ (c : Controller) (l : Log) (i : Logs c l) where
   owing : role c ≡ Receiver → receiverLevel (c .core .reception) ≡ 0 → Owing l

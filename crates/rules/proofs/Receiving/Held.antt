@@ -10,6 +10,7 @@ use Rattle.line.specs.Bits.{bits, number, Below, none, one}
 use Rattle.line.specs.Check.{check}
 use Rattle.line.specs.Frame.{Frame, Fits, byteBits, covered, carried}
 use Rattle.line.proofs.Laws.{bits-length, bits-split, bits-mod, number-bits, check-below, byteBits-append, covered-length, carried-length, header-bits}
+use Rattle.rules.specs.Definitions.Longest.{capacity}
 use Rattle.rules.specs.Definitions.Mailbox.{codedBytes}
 use Rattle.rules.specs.Definitions.Reception.{dataCount}
 use Rattle.rules.specs.Definitions.Hearing.{checkReceived}
@@ -42,7 +43,7 @@ cut-two k s h =
     let d : suc (suc k) ≡ k + 2 = omega arith in
     sym (take-append-drop k s) ∙ ap (λ (t : List ℕ). take k s ++ t) (a ∙ ap (λ (t : List ℕ). getD s k 0 ∷ t) b) ∙ rw (d, e) (sym (append-assoc (take k s) (getD s k 0 ∷ []) (getD s (k + 1) 0 ∷ drop (k + 2) s)))
 
-module _ (bytes : List ℕ) (n : ℕ) (long : length bytes ≡ 34) (below : Below 256 bytes) (small : n ≤ 30) where
+module _ (bytes : List ℕ) (n : ℕ) (long : length bytes ≡ capacity + 4) (below : Below 256 bytes) (small : n ≤ capacity) where
   -- whole nibbles and three bits more: the bytes that the check covers, and the check
   pub row-held : (m c : ℕ) → m ≡ 28 + 8 * n → take m (byteBits bytes) ++ bits 3 c ≡ byteBits (take (n + 2) bytes) ++ bits 15 (checkReceived bytes n c)
   unfolding checkReceived byteBits
@@ -78,7 +79,7 @@ module _ (bytes : List ℕ) (n : ℕ) (long : length bytes ≡ 34) (below : Belo
 
 -- ---- the frame held
 
-module _ (r : Reception) (long : length (r .bytes) ≡ 34) (below : Below 256 (r .bytes)) (small : dataCount (r .nibbles) ≤ 30) where
+module _ {longest : ℕ} (r : Reception) (long : length (r .bytes) ≡ capacity + 4) (below : Below 256 (r .bytes)) (most : longest ≤ capacity) (small : dataCount (r .nibbles) ≤ longest) where
   pub held-high : (a : Bool) → getD (r .bytes) 0 0 ≡ high (frameHeld r a)
   unfolding high frameHeld
   held-high a = let h = at-below below 1 in omega arith
@@ -91,7 +92,7 @@ module _ (r : Reception) (long : length (r .bytes) ≡ 34) (below : Below 256 (r
   unfolding frameHeld
   held-length a = sym (length-take-le (dataCount (r .nibbles)) (drop 2 (r .bytes)) (omega (arith, length-drop 2 (r .bytes))))
 
-  pub held-fits : (a : Bool) → Fits 30 (frameHeld r a)
+  pub held-fits : (a : Bool) → Fits longest (frameHeld r a)
   unfolding frameHeld
   held-fits a =
       let h₀ = at-below below 0 in
@@ -115,7 +116,7 @@ module _ (r : Reception) (long : length (r .bytes) ≡ 34) (below : Below 256 (r
       let e : bits 8 b₀ ++ bits 8 b₁ ≡ bits 12 i ++ bits 4 (b₁ % 16) = rw (p, q) at (header-bits i (b₁ % 16) (omega arith)) in
       let data′ : List ℕ = byteBits (take (dataCount (r .nibbles)) (drop 2 (r .bytes))) in
       sym
-      (ap byteBits (take-two (r .bytes) (dataCount (r .nibbles)) long below small)
+      (ap byteBits (take-two (r .bytes) (dataCount (r .nibbles)) long below (omega arith))
       ∙ sym (append-assoc (bits 8 b₀) (bits 8 b₁) data′)
       ∙ ap (λ (t : List ℕ). t ++ data′) e
       ∙ append-assoc (bits 12 i) (bits 4 (b₁ % 16)) data′)
@@ -128,7 +129,7 @@ bits-same w x y s t h g e =
     let d : s ≡ t = sym (drop-at (bits w x) s w (bits-length w x)) ∙ ap (λ (l : List ℕ). drop w l) e ∙ drop-at (bits w y) t w (bits-length w y) in
     (sym (number-bits w x h) ∙ ap number b ∙ number-bits w y g, d)
 
-module _ (f : Frame) (fits : Fits 30 f) where
+module _ {longest : ℕ} (f : Frame) (fits : Fits longest f) where
   pub carried-header : carried f ≡ bits 8 (high f) ++ (bits 8 (low f) ++ (byteBits (f .bytes) ++ bits 15 (check (covered f))))
   unfolding carried covered high low
   carried-header =
@@ -182,7 +183,7 @@ append-below : {s t : List ℕ} → Below 256 s → Below 256 t → Below 256 (s
 append-below none d = d
 append-below (one h b) d = one h (append-below b d)
 
-module _ (f : Frame) (fits : Fits 30 f) where
+module _ (f : Frame) (fits : Fits capacity f) where
   pub coded-below : Below 256 (codedBytes f)
   unfolding codedBytes
   coded-below =
@@ -190,25 +191,25 @@ module _ (f : Frame) (fits : Fits 30 f) where
       let c = fits .command in
       let k = check-below (covered f) in
       one {x = f .identifier / 16} (omega arith) (one {x = f .identifier % 16 * 16 + f .command} (omega arith)
-      (append-below (fits .bytes) (one {x = check (covered f) / 128} (omega arith) (one {x = check (covered f) % 128 * 2} (omega arith) (zeros-below (30 - length (f .bytes)))))))
+      (append-below (fits .bytes) (one {x = check (covered f) / 128} (omega arith) (one {x = check (covered f) % 128 * 2} (omega arith) (zeros-below (capacity - length (f .bytes)))))))
 
-  pub coded-length : length (codedBytes f) ≡ 34
+  pub coded-length : length (codedBytes f) ≡ capacity + 4
   unfolding codedBytes
   coded-length =
       let l = fits .size in
       rw (length-append (f .bytes), length-replicate) (omega arith)
 
   -- bytes whose bits are those that carry the frame, with zeros behind them
-  pub coded-same : (bytes : List ℕ) → Below 256 bytes → length bytes ≡ 34 → Padded (carried f ++ (0 ∷ [])) (byteBits bytes) → bytes ≡ codedBytes f
+  pub coded-same : (bytes : List ℕ) → Below 256 bytes → length bytes ≡ capacity + 4 → Padded (carried f ++ (0 ∷ [])) (byteBits bytes) → bytes ≡ codedBytes f
   coded-same bytes b l p =
       let n : ℕ = length (f .bytes) in
       let m = fits .size in
       let cl = carried-length f in
       let bl = bytes-length bytes in
       let long : length (byteBits bytes) ≡ 32 + 8 * n + p .0 = ap length (p .1) ∙ rw (length-append (carried f ++ (0 ∷ [])), length-append (carried f), length-replicate) (omega arith) in
-      let z : p .0 ≡ 8 * (30 - n) = omega arith in
-      let e : byteBits (codedBytes f) ≡ carried f ++ (0 ∷ replicate (8 * (30 - n)) 0) = coded-bits f fits ∙ ap (λ (t : List ℕ). carried f ++ (0 ∷ t)) (zeros-bits (30 - n)) in
-      bytes-same bytes (codedBytes f) b coded-below (p .1 ∙ rw z (append-assoc (carried f) (0 ∷ []) (replicate (8 * (30 - n)) 0)) ∙ sym e)
+      let z : p .0 ≡ 8 * (capacity - n) = omega arith in
+      let e : byteBits (codedBytes f) ≡ carried f ++ (0 ∷ replicate (8 * (capacity - n)) 0) = coded-bits f fits ∙ ap (λ (t : List ℕ). carried f ++ (0 ∷ t)) (zeros-bits (capacity - n)) in
+      bytes-same bytes (codedBytes f) b coded-below (p .1 ∙ rw z (append-assoc (carried f) (0 ∷ []) (replicate (8 * (capacity - n)) 0)) ∙ sym e)
 
   -- and the frame that they hold is that frame
   pub held-same : (r : Reception) → r .bytes ≡ codedBytes f → dataCount (r .nibbles) ≡ length (f .bytes) → frameHeld r (f .acknowledge) ≡ f
@@ -216,7 +217,7 @@ module _ (f : Frame) (fits : Fits 30 f) where
   held-same r e d =
       let c = fits .command in
       let n : ℕ = length (f .bytes) in
-      let behind : List ℕ = (check (covered f) / 128) ∷ (check (covered f) % 128 * 2) ∷ replicate (30 - n) 0 in
+      let behind : List ℕ = (check (covered f) / 128) ∷ (check (covered f) % 128 * 2) ∷ replicate (capacity - n) 0 in
       let i : f .identifier / 16 * 16 + (f .identifier % 16 * 16 + f .command) / 16 ≡ f .identifier = omega arith in
       let k : (f .identifier % 16 * 16 + f .command) % 16 ≡ f .command = omega arith in
       rw (e, d, i, k, take-at (f .bytes) behind n refl)

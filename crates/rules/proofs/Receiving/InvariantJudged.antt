@@ -30,7 +30,7 @@ use Rattle.rules.specs.declared.Hearing.the-variants.{Follows, Fault}
 
 -- ---- the start
 
-pub start-goes : (f : Frame) (r : Reception) (s : List ℕ) → InStart r s → (v : ℕ) (x : List ℕ) → s ++ (v ∷ x) ≡ slots f → hearStart (r .place .at) v ≡ Follows
+pub start-goes : {longest : ℕ} (f : Frame) (r : Reception) (s : List ℕ) → InStart longest r s → (v : ℕ) (x : List ℕ) → s ++ (v ∷ x) ≡ slots f → hearStart (r .place .at) v ≡ Follows
 unfolding hearStart slots
 start-goes f r s t v x e =
     let l = start-long r s t in
@@ -72,10 +72,10 @@ pair b v x (p ∷ q ∷ r ∷ y ∷ d) t h e =
     closes (λ same. omega arith) (omega arith)
 
 -- the count of a frame's nibbles
-count-whole : (j n : ℕ) → j ≡ 7 + 2 * n → n ≤ 30 → (whole j 30 ≡ true) × (dataCount j ≡ n)
+count-whole : (longest j n : ℕ) → j ≡ 7 + 2 * n → n ≤ longest → (whole j longest ≡ true) × (dataCount j ≡ n)
 unfolding whole dataCount
-count-whole j n e h =
-    (rw (le-ltb j 7 (omega arith), ne-eqb (j % 2) 0 (λ z. omega arith)) (le-leb j 67 (omega arith)), rw (le-ltb j 7 (omega arith)) (omega arith))
+count-whole longest j n e h =
+    (rw (le-ltb j 7 (omega arith), ne-eqb (j % 2) 0 (λ z. omega arith)) (le-leb j (mostNibbles longest) (omega arith)), rw (le-ltb j 7 (omega arith)) (omega arith))
 
 received-below : (bytes : List ℕ) (n c : ℕ) → Below 256 bytes → checkReceived bytes n c < 2 ^ 15
 unfolding checkReceived
@@ -84,20 +84,20 @@ received-below bytes n c b =
     let g = at-below b (n + 3) in
     omega arith
 
-module _ (f : Frame) (fits : Fits 30 f) (request : replyRequest (low f) ≡ true → length (f .bytes) ≡ 0) (r : Reception) (s : List ℕ) (t : InBody r s) where
+module _ {longest : ℕ} (f : Frame) (fits : Fits longest f) (request : replyRequest (low f) ≡ true → length (f .bytes) ≡ 0) (r : Reception) (s : List ℕ) (t : InBody longest r s) where
   -- the check, and no data in a reply request
-  end-goes : (x : List ℕ) → s ++ x ≡ slots f → carried f ≡ take (4 * r .nibbles) (byteBits (r .bytes)) ++ bits 3 (r .bits / 2) → hearEndOfData r 30 ≡ Follows
+  end-goes : (x : List ℕ) → s ++ x ≡ slots f → carried f ≡ take (4 * r .nibbles) (byteBits (r .bytes)) ++ bits 3 (r .bits / 2) → hearEndOfData r longest ≡ Follows
   unfolding hearEndOfData checkDue
   end-goes x e c =
       let n : ℕ = length (f .bytes) in
-      let l : length (carried f) ≡ 4 * r .nibbles + 3 = ap length c ∙ rw (length-append (take (4 * r .nibbles) (byteBits (r .bytes))), nibbles-length (r .bytes) (r .nibbles) (t .long) (t .nibbles), bits-length) refl in
+      let l : length (carried f) ≡ 4 * r .nibbles + 3 = ap length c ∙ rw (length-append (take (4 * r .nibbles) (byteBits (r .bytes))), nibbles-length (r .bytes) (r .nibbles) (t .long) (omega (arith, t .most, t .nibbles)), bits-length) refl in
       let fl = carried-length f in
       let j : r .nibbles ≡ 7 + 2 * n = omega arith in
-      let w = count-whole (r .nibbles) n j (fits .size) in
+      let w = count-whole longest (r .nibbles) n j (fits .size) in
       let h = body-header f fits r s t (omega arith) x e in
-      let row = row-held (r .bytes) n (t .long) (t .below) (fits .size) (4 * r .nibbles) (r .bits / 2) (omega arith) in
+      let row = row-held (r .bytes) n (t .long) (t .below) (omega (arith, fits .size, t .most)) (4 * r .nibbles) (r .bits / 2) (omega arith) in
       let p : List ℕ = byteBits (take (n + 2) (r .bytes)) in
-      let pl : length p ≡ 16 + 8 * n = bytes-length (take (n + 2) (r .bytes)) ∙ rw (length-take-le (n + 2) (r .bytes) (omega (arith, t .long, fits .size))) (omega arith) in
+      let pl : length p ≡ 16 + 8 * n = bytes-length (take (n + 2) (r .bytes)) ∙ rw (length-take-le (n + 2) (r .bytes) (omega (arith, t .long, fits .size, t .most))) (omega arith) in
       let k = check-same f fits p (checkReceived (r .bytes) n (r .bits / 2)) (received-below (r .bytes) n (r .bits / 2) (t .below)) pl (c ∙ row) in
       rw (w .0, w .1, h .1, no-data (replyRequest (low f)) request, eq-eqb (checkReceived (r .bytes) n (r .bits / 2)) (check p) (k .1))
     where
@@ -105,25 +105,25 @@ module _ (f : Frame) (fits : Fits 30 f) (request : replyRequest (low f) ≡ true
       no-data true h = le-ltb 0 (length (f .bytes)) (omega (arith, h refl))
       no-data false h = refl
 
-  second-goes : r .place .at ≡ 4 → (v : ℕ) (x : List ℕ) → s ++ (v ∷ x) ≡ slots f → hearSecondHalf r 30 v ≡ Follows
+  second-goes : r .place .at ≡ 4 → (v : ℕ) (x : List ℕ) → s ++ (v ∷ x) ≡ slots f → hearSecondHalf r longest v ≡ Follows
   unfolding hearSecondHalf
   second-goes l v x e =
       let k : Opens (take (4 * r .nibbles) (byteBits (r .bytes))) (carried f) (bits 4 (r .bits) ++ (v ∷ x)) (closing f) = rw l at (body-opens f r s t (v ∷ x) e) in
       go (k .rest) (k .bits-are) (pair (r .bits) v x (k .rest) (closing f) (k .long) (k .slots-are))
     where
       go : (d : List ℕ) → carried f ≡ take (4 * r .nibbles) (byteBits (r .bytes)) ++ d → Pair (r .bits) v d
-          → pick (eqb v (r .bits % 2)) (pick (eqb v 0) (hearEndOfData r 30) (Fault CV)) (pick (ltb (r .nibbles) 67) Follows (Fault CV)) ≡ Follows
+          → pick (eqb v (r .bits % 2)) (pick (eqb v 0) (hearEndOfData r longest) (Fault CV)) (pick (ltb (r .nibbles) (mostNibbles longest)) Follows (Fault CV)) ≡ Follows
       go d c (ends same zero′ three) = rw (eq-eqb v (r .bits % 2) same, eq-eqb v 0 zero′) (end-goes (v ∷ x) e (rw three at c))
       go d c (closes other long) =
-          let m : length (carried f) ≡ 4 * r .nibbles + length d = ap length c ∙ rw (length-append (take (4 * r .nibbles) (byteBits (r .bytes))), nibbles-length (r .bytes) (r .nibbles) (t .long) (t .nibbles)) refl in
+          let m : length (carried f) ≡ 4 * r .nibbles + length d = ap length c ∙ rw (length-append (take (4 * r .nibbles) (byteBits (r .bytes))), nibbles-length (r .bytes) (r .nibbles) (t .long) (omega (arith, t .most, t .nibbles))) refl in
           let fl = carried-length f in
           let fs = fits .size in
-          rw (ne-eqb v (r .bits % 2) other, lt-ltb (r .nibbles) 67 (omega arith))
+          rw (ne-eqb v (r .bits % 2) other, lt-ltb (r .nibbles) (mostNibbles longest) (omega arith))
 
-  pub body-goes : (v : ℕ) (x : List ℕ) → s ++ (v ∷ x) ≡ slots f → hearBody r 30 v ≡ Follows
+  pub body-goes : (v : ℕ) (x : List ℕ) → s ++ (v ∷ x) ≡ slots f → hearBody r longest v ≡ Follows
   unfolding hearBody
   body-goes v x e =
-      picked (λ (h : Hearing). h ≡ Follows) (ltb (r .place .at) 4) Follows (hearSecondHalf r 30 v) (λ d. refl)
+      picked (λ (h : Hearing). h ≡ Follows) (ltb (r .place .at) 4) Follows (hearSecondHalf r longest v) (λ d. refl)
       (λ d. let l = ltb-false (r .place .at) 4 d in second-goes (omega (arith, t .within)) v x e)
 
 -- ---- the acknowledge
@@ -133,7 +133,7 @@ unfolding bits acknowledgeSlots
 pair-is true b v x y e = let d : b / 1 % 2 ≡ 1 = cons-head e in (omega arith, cons-head (cons-tail e))
 pair-is false b v x y e = let d : b / 1 % 2 ≡ 1 = cons-head e in (omega arith, cons-head (cons-tail e))
 
-module _ (f : Frame) (fits : Fits 30 f) (r : Reception) (valid : Valid (r .winner) f) (s : List ℕ) (t : InAcknowledge r s) where
+module _ {longest : ℕ} (f : Frame) (fits : Fits longest f) (r : Reception) (valid : Valid (r .winner) f) (s : List ℕ) (t : InAcknowledge longest r s) where
   wrong : (v : ℕ) (x : List ℕ) → Same f r (bits 1 (r .bits)) (v ∷ x) → acknowledgeWrong (acknowledgeAsked (getD (r .bytes) 1 0)) (acknowledges r) (r .bits % 2) v ≡ false
   unfolding acknowledgeWrong
   wrong v x k =
@@ -163,7 +163,7 @@ module _ (f : Frame) (fits : Fits 30 f) (r : Reception) (valid : Valid (r .winne
 
 -- ---- the end of the frame
 
-module _ (f : Frame) (fits : Fits 30 f) (r : Reception) (s : List ℕ) (t : InEnd r s) where
+module _ {longest : ℕ} (f : Frame) (fits : Fits longest f) (r : Reception) (s : List ℕ) (t : InEnd longest r s) where
   pub end-of-frame : (v : ℕ) (x : List ℕ) → s ++ (v ∷ x) ≡ slots f → (v ≡ 1) × (r .place .at + length x ≡ 7)
   unfolding closing endOfFrame
   end-of-frame v x e =

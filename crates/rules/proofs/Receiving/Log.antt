@@ -12,6 +12,7 @@ use Rattle.line.specs.Bits.{pick}
 use Rattle.line.specs.Frame.{start}
 use Rattle.line.proofs.Laws.{picked}
 use Rattle.rules.specs.Definitions.Channels.{extension, reads, remote, chrx, chtx, channelAt, listensForData, listensForRequests, listens, takes, lowest, lowestListening, won, winnerFor, nobody}
+use Rattle.rules.specs.Definitions.Longest.{capacity}
 use Rattle.rules.specs.Definitions.Reception.{atPlace, quiet, isUnderWay, takesStart, underWay, behind, commandEnded, begun, followIn, followed, winnerTaken}
 use Rattle.rules.specs.Definitions.Hearing.{receptionAfter, hearFrame, hearQuiet}
 use Rattle.rules.proofs.Receiving.Invariant.{Invariant}
@@ -66,19 +67,19 @@ none-wins high low = rw (none-lowest (λ c. takes [] c high low) (none-takes hig
 -- ---- the frame under way follows
 
 pub record Following (r : Reception) (l : Log) : Type 0 where
-  pub invariant : Invariant r (l .samples)
+  pub invariant : Invariant capacity r (l .samples)
   pub winner : r .winner ≡ winnerFor (l .held) (getD (r .bytes) 0 0) (getD (r .bytes) 1 0)
   pub before : length (l .samples) < 30 → l .held ≡ []
 
 pub begun-following : (m : List ℕ) → Following begun (sampledLog noLog 0 m)
 unfolding sampledLog noLog
-begun-following m = record { invariant = invariant-begun; winner = unfold begun quiet in (sym (none-wins 0 0)); before = λ h. refl }
+begun-following m = record { invariant = invariant-begun (omega arith); winner = unfold begun quiet in (sym (none-wins 0 0)); before = λ h. refl }
 
 module _ (r : Reception) (l : Log) (f : Following r l) (v : ℕ) (small : v < 2) (h : hearFrame r 30 v ≡ Follows) (m : List ℕ) where
-  invariant-then : Invariant (followed r v) (l .samples ++ (v ∷ []))
+  invariant-then : Invariant capacity (followed r v) (l .samples ++ (v ∷ []))
   invariant-then = invariant-step r (l .samples) (f .invariant) v small h
 
-  -- the winner stays, and so do identifier and command once it is winnerTaken
+  -- the winner stays, and so do identifier and command once it is taken
   winner-kept : followed r v .winner ≡ winnerFor (l .held) (getD (followed r v .bytes) 0 0) (getD (followed r v .bytes) 1 0)
   winner-kept = go (ltb (length (l .samples)) 30) refl
     where

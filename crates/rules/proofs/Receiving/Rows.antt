@@ -11,6 +11,7 @@ use Rattle.line.specs.Bits.{bits, Below}
 use Rattle.line.specs.LineCode.{lineCode}
 use Rattle.line.specs.Frame.{byteBits}
 use Rattle.line.proofs.Laws.{bits-length, bits-split, bits-mod, code-length, byteBits-append, picked}
+use Rattle.rules.specs.Definitions.Longest.{capacity, mostNibbles}
 use Rattle.rules.specs.Definitions.Reception.{withNibble}
 use Rattle.rules.proofs.Ranges.Bytes.{at-below, set-below}
 
@@ -37,10 +38,10 @@ bytes-length [] = refl
 bytes-length (b ∷ s) = let k = bytes-length s in rw (length-append (bits 8 b) (byteBits s), bits-length 8 b) (omega arith)
 
 -- so many whole nibbles
-pub nibbles-length : (bytes : List ℕ) (j : ℕ) → length bytes ≡ 34 → j ≤ 67 → length (take (4 * j) (byteBits bytes)) ≡ 4 * j
+pub nibbles-length : (bytes : List ℕ) (j : ℕ) → length bytes ≡ capacity + 4 → j ≤ mostNibbles capacity → length (take (4 * j) (byteBits bytes)) ≡ 4 * j
 nibbles-length bytes j e h = length-take-le (4 * j) (byteBits bytes) (omega (arith, bytes-length bytes))
 
-pub nibbles-slots : (bytes : List ℕ) (j : ℕ) → length bytes ≡ 34 → j ≤ 67 → length (lineCode (take (4 * j) (byteBits bytes))) ≡ 5 * j
+pub nibbles-slots : (bytes : List ℕ) (j : ℕ) → length bytes ≡ capacity + 4 → j ≤ mostNibbles capacity → length (lineCode (take (4 * j) (byteBits bytes))) ≡ 5 * j
 nibbles-slots bytes j e h = rw (code-length, nibbles-length bytes j e h) (omega arith)
 
 -- n bytes before a byte b
@@ -69,18 +70,18 @@ take-bytes n s m e h =
 
 -- ---- a nibble more
 
-module _ (bytes : List ℕ) (j x : ℕ) (long : length bytes ≡ 34) (h : j ≤ 67) where
-  even-nibble : j % 2 ≡ 0 → take (4 * (j + 1)) (byteBits (set bytes (j / 2 % 34) (x % 16 * 16))) ≡ take (4 * j) (byteBits bytes) ++ bits 4 x
+module _ (bytes : List ℕ) (j x : ℕ) (long : length bytes ≡ capacity + 4) (h : j ≤ mostNibbles capacity) where
+  even-nibble : j % 2 ≡ 0 → take (4 * (j + 1)) (byteBits (set bytes (j / 2 % (capacity + 4)) (x % 16 * 16))) ≡ take (4 * j) (byteBits bytes) ++ bits 4 x
   even-nibble e =
-      let i : j / 2 % 34 ≡ j / 2 = omega arith in
+      let i : j / 2 % (capacity + 4) ≡ j / 2 = omega arith in
       let l : length (take (j / 2) bytes) ≡ j / 2 = length-take-le (j / 2) bytes (omega arith) in
       let q : x % 16 * 16 / 16 ≡ x % 16 = omega arith in
       rw (i, set-split bytes (j / 2) (x % 16 * 16) (omega arith), take-half (take (j / 2) bytes) (x % 16 * 16) (drop (suc (j / 2)) bytes) (4 * (j + 1)) (omega arith), take-bytes (j / 2) bytes (4 * j) (omega arith) (omega arith), q)
       (ap (λ (t : List ℕ). byteBits (take (j / 2) bytes) ++ t) (bits-mod 4 x))
 
-  odd-nibble : j % 2 ≡ 1 → take (4 * (j + 1)) (byteBits (set bytes (j / 2 % 34) (getD bytes (j / 2 % 34) 0 / 16 * 16 + x % 16))) ≡ take (4 * j) (byteBits bytes) ++ bits 4 x
+  odd-nibble : j % 2 ≡ 1 → take (4 * (j + 1)) (byteBits (set bytes (j / 2 % (capacity + 4)) (getD bytes (j / 2 % (capacity + 4)) 0 / 16 * 16 + x % 16))) ≡ take (4 * j) (byteBits bytes) ++ bits 4 x
   odd-nibble e =
-      let i : j / 2 % 34 ≡ j / 2 = omega arith in
+      let i : j / 2 % (capacity + 4) ≡ j / 2 = omega arith in
       let l : length (take (j / 2) bytes) ≡ j / 2 = length-take-le (j / 2) bytes (omega arith) in
       let b : ℕ = getD bytes (j / 2) 0 in
       let p : List ℕ = take (j / 2) bytes in
@@ -97,7 +98,7 @@ module _ (bytes : List ℕ) (j x : ℕ) (long : length bytes ≡ 34) (h : j ≤ 
   pub nibble-added : take (4 * (j + 1)) (byteBits (withNibble bytes j x)) ≡ take (4 * j) (byteBits bytes) ++ bits 4 x
   unfolding withNibble
   nibble-added =
-      picked (λ (t : List ℕ). take (4 * (j + 1)) (byteBits t) ≡ take (4 * j) (byteBits bytes) ++ bits 4 x) (eqb (j % 2) 0) (set bytes (j / 2 % 34) (x % 16 * 16)) (set bytes (j / 2 % 34) (getD bytes (j / 2 % 34) 0 / 16 * 16 + x % 16))
+      picked (λ (t : List ℕ). take (4 * (j + 1)) (byteBits t) ≡ take (4 * j) (byteBits bytes) ++ bits 4 x) (eqb (j % 2) 0) (set bytes (j / 2 % (capacity + 4)) (x % 16 * 16)) (set bytes (j / 2 % (capacity + 4)) (getD bytes (j / 2 % (capacity + 4)) 0 / 16 * 16 + x % 16))
       (λ e. even-nibble (eqb-true (j % 2) 0 e)) (λ e. let d = eqb-false (j % 2) 0 e in odd-nibble (omega arith))
 
 -- ---- zeros behind
@@ -118,7 +119,7 @@ zeros-tail [] b z e = (z, e)
 zeros-tail (x ∷ a) b zero e = absurd (omega (arith, ap length e))
 zeros-tail (x ∷ a) b (suc z) e = zeros-tail a b z (cons-tail e)
 
-module _ (bytes : List ℕ) (j x : ℕ) (long : length bytes ≡ 34) (h : j ≤ 67) where
+module _ (bytes : List ℕ) (j x : ℕ) (long : length bytes ≡ capacity + 4) (h : j ≤ mostNibbles capacity) where
   abbrev p : List ℕ
   p = take (j / 2) bytes
 
@@ -131,9 +132,9 @@ module _ (bytes : List ℕ) (j x : ℕ) (long : length bytes ≡ 34) (h : j ≤ 
   bytes-cut : byteBits bytes ≡ byteBits p ++ (bits 4 (c / 16) ++ (bits 4 c ++ byteBits q))
   bytes-cut = ap byteBits (split-at bytes (j / 2) 0 (omega arith)) ∙ cut-bits p c q
 
-  even-made : j % 2 ≡ 0 → (z : ℕ) → byteBits q ≡ replicate z 0 → byteBits (set bytes (j / 2 % 34) (x % 16 * 16)) ≡ (take (4 * j) (byteBits bytes) ++ bits 4 x) ++ replicate (4 + z) 0
+  even-made : j % 2 ≡ 0 → (z : ℕ) → byteBits q ≡ replicate z 0 → byteBits (set bytes (j / 2 % (capacity + 4)) (x % 16 * 16)) ≡ (take (4 * j) (byteBits bytes) ++ bits 4 x) ++ replicate (4 + z) 0
   even-made e z behind =
-      let i : j / 2 % 34 ≡ j / 2 = omega arith in
+      let i : j / 2 % (capacity + 4) ≡ j / 2 = omega arith in
       let b : take (4 * j) (byteBits bytes) ≡ byteBits p = take-bytes (j / 2) bytes (4 * j) (omega arith) (omega arith) in
       let m : x % 16 * 16 % 16 ≡ 0 = omega arith in
       let d : x % 16 * 16 / 16 ≡ x % 16 = omega arith in
@@ -141,7 +142,7 @@ module _ (bytes : List ℕ) (j x : ℕ) (long : length bytes ≡ 34) (h : j ≤ 
       rw (i, set-split bytes (j / 2) (x % 16 * 16) (omega arith), cut-bits p (x % 16 * 16) q, d, w, behind, b, bits-mod 4 x)
       (ap (λ (s : List ℕ). byteBits p ++ (bits 4 x ++ s)) (replicate-append-replicate 4 z 0) ∙ sym (append-assoc (byteBits p) (bits 4 x) (replicate (4 + z) 0)))
 
-  even-padded : j % 2 ≡ 0 → Padded (take (4 * j) (byteBits bytes)) (byteBits bytes) → Padded (take (4 * j) (byteBits bytes) ++ bits 4 x) (byteBits (set bytes (j / 2 % 34) (x % 16 * 16)))
+  even-padded : j % 2 ≡ 0 → Padded (take (4 * j) (byteBits bytes)) (byteBits bytes) → Padded (take (4 * j) (byteBits bytes) ++ bits 4 x) (byteBits (set bytes (j / 2 % (capacity + 4)) (x % 16 * 16)))
   even-padded e z =
       let b : take (4 * j) (byteBits bytes) ≡ byteBits p = take-bytes (j / 2) bytes (4 * j) (omega arith) (omega arith) in
       let r : bits 4 (c / 16) ++ (bits 4 c ++ byteBits q) ≡ replicate (z .0) 0 = cancel (byteBits p) (sym bytes-cut ∙ z .1 ∙ ap (λ (t : List ℕ). t ++ replicate (z .0) 0) b) in
@@ -149,9 +150,9 @@ module _ (bytes : List ℕ) (j x : ℕ) (long : length bytes ≡ 34) (h : j ≤ 
       (4 + t .0, even-made e (t .0) (t .1))
 
   odd-made : j % 2 ≡ 1 → (z : ℕ) → byteBits q ≡ replicate z 0
-      → byteBits (set bytes (j / 2 % 34) (getD bytes (j / 2 % 34) 0 / 16 * 16 + x % 16)) ≡ ((byteBits p ++ bits 4 (c / 16)) ++ bits 4 x) ++ replicate z 0
+      → byteBits (set bytes (j / 2 % (capacity + 4)) (getD bytes (j / 2 % (capacity + 4)) 0 / 16 * 16 + x % 16)) ≡ ((byteBits p ++ bits 4 (c / 16)) ++ bits 4 x) ++ replicate z 0
   odd-made e z behind =
-      let i : j / 2 % 34 ≡ j / 2 = omega arith in
+      let i : j / 2 % (capacity + 4) ≡ j / 2 = omega arith in
       let y : ℕ = c / 16 * 16 + x % 16 in
       let d : (c / 16 * 16 + x % 16) / 16 ≡ c / 16 = omega arith in
       let m : (c / 16 * 16 + x % 16) % 16 ≡ x % 16 = omega arith in
@@ -159,7 +160,7 @@ module _ (bytes : List ℕ) (j x : ℕ) (long : length bytes ≡ 34) (h : j ≤ 
       rw i (ap byteBits (set-split bytes (j / 2) y (omega arith)) ∙ cut-bits p y q ∙ rw (d, w, behind) (simp append-assoc))
 
   odd-padded : j % 2 ≡ 1 → Padded (take (4 * j) (byteBits bytes)) (byteBits bytes)
-      → Padded (take (4 * j) (byteBits bytes) ++ bits 4 x) (byteBits (set bytes (j / 2 % 34) (getD bytes (j / 2 % 34) 0 / 16 * 16 + x % 16)))
+      → Padded (take (4 * j) (byteBits bytes) ++ bits 4 x) (byteBits (set bytes (j / 2 % (capacity + 4)) (getD bytes (j / 2 % (capacity + 4)) 0 / 16 * 16 + x % 16)))
   odd-padded e z =
       let l : length p ≡ j / 2 = length-take-le (j / 2) bytes (omega arith) in
       let b : take (4 * j) (byteBits bytes) ≡ byteBits p ++ bits 4 (c / 16) = ap (λ (t : List ℕ). take (4 * j) (byteBits t)) (split-at bytes (j / 2) 0 (omega arith)) ∙ take-half p c q (4 * j) (omega arith) in
@@ -172,21 +173,21 @@ module _ (bytes : List ℕ) (j x : ℕ) (long : length bytes ≡ 34) (h : j ≤ 
   pub nibble-padded : Padded (take (4 * j) (byteBits bytes)) (byteBits bytes) → Padded (take (4 * j) (byteBits bytes) ++ bits 4 x) (byteBits (withNibble bytes j x))
   unfolding withNibble
   nibble-padded z =
-      picked (λ (t : List ℕ). Padded (take (4 * j) (byteBits bytes) ++ bits 4 x) (byteBits t)) (eqb (j % 2) 0) (set bytes (j / 2 % 34) (x % 16 * 16)) (set bytes (j / 2 % 34) (getD bytes (j / 2 % 34) 0 / 16 * 16 + x % 16))
+      picked (λ (t : List ℕ). Padded (take (4 * j) (byteBits bytes) ++ bits 4 x) (byteBits t)) (eqb (j % 2) 0) (set bytes (j / 2 % (capacity + 4)) (x % 16 * 16)) (set bytes (j / 2 % (capacity + 4)) (getD bytes (j / 2 % (capacity + 4)) 0 / 16 * 16 + x % 16))
       (λ e. even-padded (eqb-true (j % 2) 0 e) z) (λ e. let d = eqb-false (j % 2) 0 e in odd-padded (omega arith) z)
 
-pub nibble-long : (bytes : List ℕ) (j x : ℕ) → length bytes ≡ 34 → length (withNibble bytes j x) ≡ 34
+pub nibble-long : (bytes : List ℕ) (j x : ℕ) → length bytes ≡ capacity + 4 → length (withNibble bytes j x) ≡ capacity + 4
 unfolding withNibble
 nibble-long bytes j x l =
-    picked (λ (t : List ℕ). length t ≡ 34) (eqb (j % 2) 0) (set bytes (j / 2 % 34) (x % 16 * 16)) (set bytes (j / 2 % 34) (getD bytes (j / 2 % 34) 0 / 16 * 16 + x % 16))
-    (λ e. length-set bytes (j / 2 % 34) (x % 16 * 16) ∙ l) (λ e. length-set bytes (j / 2 % 34) (getD bytes (j / 2 % 34) 0 / 16 * 16 + x % 16) ∙ l)
+    picked (λ (t : List ℕ). length t ≡ capacity + 4) (eqb (j % 2) 0) (set bytes (j / 2 % (capacity + 4)) (x % 16 * 16)) (set bytes (j / 2 % (capacity + 4)) (getD bytes (j / 2 % (capacity + 4)) 0 / 16 * 16 + x % 16))
+    (λ e. length-set bytes (j / 2 % (capacity + 4)) (x % 16 * 16) ∙ l) (λ e. length-set bytes (j / 2 % (capacity + 4)) (getD bytes (j / 2 % (capacity + 4)) 0 / 16 * 16 + x % 16) ∙ l)
 
 pub nibble-below : {bytes : List ℕ} → Below 256 bytes → (j x : ℕ) → Below 256 (withNibble bytes j x)
 unfolding withNibble
 nibble-below {bytes} b j x =
-    let h = at-below b (j / 2 % 34) in
-    picked (Below 256) (eqb (j % 2) 0) (set bytes (j / 2 % 34) (x % 16 * 16)) (set bytes (j / 2 % 34) (getD bytes (j / 2 % 34) 0 / 16 * 16 + x % 16))
-    (λ e. set-below b (j / 2 % 34) (x % 16 * 16) (omega arith)) (λ e. set-below b (j / 2 % 34) (getD bytes (j / 2 % 34) 0 / 16 * 16 + x % 16) (omega arith))
+    let h = at-below b (j / 2 % (capacity + 4)) in
+    picked (Below 256) (eqb (j % 2) 0) (set bytes (j / 2 % (capacity + 4)) (x % 16 * 16)) (set bytes (j / 2 % (capacity + 4)) (getD bytes (j / 2 % (capacity + 4)) 0 / 16 * 16 + x % 16))
+    (λ e. set-below b (j / 2 % (capacity + 4)) (x % 16 * 16) (omega arith)) (λ e. set-below b (j / 2 % (capacity + 4)) (getD bytes (j / 2 % (capacity + 4)) 0 / 16 * 16 + x % 16) (omega arith))
 
 -- four bits, and the opposite of the last
 pub nibble-slots : (x v : ℕ) → v < 2 → (v ≡ x % 2 → ⊥) → lineCode (bits 4 x) ≡ bits 4 x ++ (v ∷ [])

@@ -41,7 +41,7 @@ rearCommanded s v = pick (asksRearbitration v) (rearAsked s) s
 unfoldable pub keptByte : List ℕ → ℕ → ℕ → List ℕ
 keptByte m address v = pick (writeOnly address) m (set m (address % 256) v)
 
--- "A write to 0x0B clears the winnerTaken status bits."
+-- "A write to 0x0B clears the named status bits."
 unfoldable pub flagsCleared : Core → ℕ → Core
 flagsCleared k v = withReport k (withFlags (k .report) (cleared (k .report .flags) v))
 

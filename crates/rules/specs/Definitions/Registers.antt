@@ -146,7 +146,7 @@ unfoldable pub interruptStatus : Flags → ℕ
 interruptStatus f =
     bit (f .rst) * 128 + bit (f .te) * 16 + bit (f .tok) * 8 + bit (f .re) * 4 + bit (f .rok) * 2 + bit (f .rnok)
 
--- "A write to 0x0B clears the winnerTaken status bits."
+-- "A write to 0x0B clears the named status bits."
 unfoldable pub unless : Bool → Bool → Bool
 unless flag named = pick named false flag
 
