@@ -10,6 +10,7 @@ use lib.Dec.{eqb, ltb}
 use lib.ListN.{getD}
 use Rattle.line.specs.Bits.{pick}
 use Rattle.rules.specs.Definitions.Setters.{withTe, withTok, withRe, withRok, withRnok, withActivity, withReport, withLine, withService}
+use Rattle.rules.specs.Definitions.Longest.{longestOf}
 use Rattle.rules.specs.Definitions.Registers.{both, command, interruptReset, asksReset, asksIdle, asksActivation, unless, cleared, resetReport}
 use Rattle.rules.specs.Definitions.Channels.{acknowledgeAsked}
 use Rattle.rules.specs.Statements.Bits.{bitAt}
@@ -19,7 +20,7 @@ use Rattle.rules.specs.Definitions.Delivery.{delivered, deliveryTo, deli
 use Rattle.rules.specs.Definitions.Attempt.{largest, moreAttempts, judge, atStage, betweenAttempts, isBetween, slotSpent, lostSpent, errorSpent, advance, exhausted}
 use Rattle.rules.specs.Definitions.Service.{roleOf, stopped, endingOf, settled, reportSending, reportJudged, reportEnded}
 use Rattle.rules.specs.Definitions.State.{isActive, inMode, resetCore, idleDue, slept, idleAsked, activated}
-use Rattle.rules.specs.Definitions.Slots.{longest, heardAs, heard, delivers, serviceJudged, ending, reportAfter, memoryJudged, coreJudged, startMade, followsOn, sampleOf, judgedSlot, sampledSlot, activeSlot}
+use Rattle.rules.specs.Definitions.Slots.{heardAs, heard, delivers, serviceJudged, ending, reportAfter, memoryJudged, coreJudged, startMade, followsOn, sampleOf, judgedSlot, sampledSlot, activeSlot}
 use Rattle.rules.specs.Definitions.Host.{resetAll, resets, sleeps, modeCommanded, flagsCleared, coreWritten, serviceAsked, stoppedCore, byteWritten, written}
 use Rattle.rules.specs.Definitions.Run.{fresh, accept, answered, restedSlot, step, next, after}
 use Rattle.rules.proofs.Ranges.Limits.{Fine}
@@ -568,12 +569,12 @@ quiet-nothing l v r = go (eqb v 0) (takesStart l)
 
 -- by the receiver's judgement alone, where the model is not the sender
 module _ (c : Controller) (v : ℕ) (other : sends c ≡ false) where
-  quiet-heard : c .core .reception .place .phase ≡ Quiet → hearFrame (c .core .reception) longest v ≡ Silent
+  quiet-heard : c .core .reception .place .phase ≡ Quiet → hearFrame (c .core .reception) (longestOf (c .core)) v ≡ Silent
   unfolding hearFrame hearIn
   quiet-heard e = rw e
 
   by-phase : (p : Phase) → c .core .reception .place .phase ≡ p
-      → deliveryOf (heardAs (pick (isUnderWay p) Receiver Nobody) (c .core) Unjudged v) (c .core .reception) ≡ deliveryOf (hearFrame (c .core .reception) longest v) (c .core .reception)
+      → deliveryOf (heardAs (pick (isUnderWay p) Receiver Nobody) (c .core) Unjudged v) (c .core .reception) ≡ deliveryOf (hearFrame (c .core .reception) (longestOf (c .core)) v) (c .core .reception)
   unfolding heardAs isUnderWay
   by-phase Quiet e =
       quiet-nothing (c .core .line) v (c .core .reception)
@@ -587,11 +588,11 @@ module _ (c : Controller) (v : ℕ) (other : sends c ≡ false) where
   unfolding heard roleOf underWay
   heard-other = rw other
 
-  other-delivers : delivers Unjudged (heard (c .core) Unjudged v) (c .core .reception) ≡ deliveryOf (hearFrame (c .core .reception) longest v) (c .core .reception)
+  other-delivers : delivers Unjudged (heard (c .core) Unjudged v) (c .core .reception) ≡ deliveryOf (hearFrame (c .core .reception) (longestOf (c .core)) v) (c .core .reception)
   unfolding delivers
   other-delivers = ap (λ (h : Hearing). deliveryOf h (c .core .reception)) heard-other ∙ by-phase (c .core .reception .place .phase) refl
 
-  other-delivery : deliveryIn c v ≡ deliveryOf (hearFrame (c .core .reception) longest v) (c .core .reception)
+  other-delivery : deliveryIn c v ≡ deliveryOf (hearFrame (c .core .reception) (longestOf (c .core)) v) (c .core .reception)
   other-delivery =
       ap (λ (w : Verdict). delivers w (heard (c .core) w v) (c .core .reception)) (no-attempt (c .core .service .effort) v other) ∙ other-delivers
 

@@ -11,11 +11,12 @@ use lib.ListN.{getD, set}
 use Rattle.line.specs.Bits.{Below}
 use Rattle.line.proofs.Laws.{picked}
 use Rattle.rules.specs.Definitions.Setters.{withActivity, withReport, withService}
+use Rattle.rules.specs.Definitions.Longest.{longestOf}
 use Rattle.rules.specs.Definitions.Registers.{command, readOnly, reserved, fixedBits, interruptReset, transmitControl, autonomous, writeOnly, asksIdle, asksActivation, asksRearbitration, resetReport}
 use Rattle.rules.specs.Definitions.Reception.{unsettled}
 use Rattle.rules.specs.Definitions.Service.{roleOf, stopped, choose, aborts, abortAsked, rearAsked}
 use Rattle.rules.specs.Definitions.State.{inRange, isActive, isAsleep, serving, inMode, resetCore, idled, idleDue, slept, idleAsked, activated}
-use Rattle.rules.specs.Definitions.Slots.{longest, heardAs, heard, delivers, serviceJudged, ending, reportAfter, memoryJudged, coreJudged, chooses, choiceMade, startMade, followsOn, sampleOf, judgedSlot, sampledSlot, activeSlot}
+use Rattle.rules.specs.Definitions.Slots.{heardAs, heard, delivers, serviceJudged, ending, reportAfter, memoryJudged, coreJudged, chooses, choiceMade, startMade, followsOn, sampleOf, judgedSlot, sampledSlot, activeSlot}
 use Rattle.rules.specs.Definitions.Host.{resetAll, resets, sleeps, modeCommanded, rearCommanded, keptByte, flagsCleared, coreWritten, serviceAsked, stoppedCore, byteWritten, written, byteRead, accessRefused, writeRefused, readRefused}
 use Rattle.rules.specs.Definitions.Run.{fresh, refuse, accept, pinReset, hostWrite, hostRead, answered, restedSlot, slot, step, next, after}
 use Rattle.rules.proofs.Ranges.Limits.{RetriesLimits, ReportLimits, Fine, limits-in-range}
@@ -68,7 +69,7 @@ fine-kept c f =
 as-heard : (x : Role) (k : Core) {w : Verdict} (v : ℕ) → Judged (k .service .effort) w → Heard (heardAs x k w v)
 unfolding heardAs
 as-heard Nobody k v j = quiet-heard (k .line) v
-as-heard Receiver k v j = frame-heard (k .reception) longest v
+as-heard Receiver k v j = frame-heard (k .reception) (longestOf k) v
 as-heard Sender k v j = own-heard (k .service .effort) j
 
 is-heard : (k : Core) {w : Verdict} (v : ℕ) → Judged (k .service .effort) w → Heard (heard k w v)
@@ -124,10 +125,10 @@ idle-kept k f =
 choice-kept : {m : List ℕ} → Below 256 m → (k : Core) → Kept k → Kept (choiceMade m k)
 unfolding choiceMade
 choice-kept {m} b k f =
-    let s : Served (choose m longest) = choose-served b longest in
+    let s : Served (choose m (longestOf k)) = choose-served b (longestOf k) in
     picked Kept (chooses k) _ k
-    (λ e. picked Kept (serving (choose m longest)) _ k
-    (λ d. service-kept _ (choose m longest) (report-kept k _ f (sending-report (k .report) (choose m longest) (f .report) (served-spent _ s))) s)
+    (λ e. picked Kept (serving (choose m (longestOf k))) _ k
+    (λ d. service-kept _ (choose m (longestOf k)) (report-kept k _ f (sending-report (k .report) (choose m (longestOf k)) (f .report) (served-spent _ s))) s)
     (λ d. f))
     (λ e. f)
 

@@ -26,9 +26,10 @@ use Rattle.rules.specs.Definitions.Delivery.{deliveryTo, delivered, deli
 use Rattle.rules.specs.Definitions.Attempt.{drivesFrame, judgeSlot, judge, advance}
 use Rattle.rules.specs.Definitions.Service.{roleOf, stopped, endingOf, memoryEnded, reportJudged, reportEnded, reportSending, choose}
 use Rattle.rules.specs.Definitions.State.{isActive, inMode, serving, resetCore, idled, idleDue}
+use Rattle.rules.specs.Definitions.Longest.{longestOf}
 use Rattle.rules.specs.Definitions.Registers.{BOV}
 use Rattle.rules.specs.declared.Report.{Report}
-use Rattle.rules.specs.Definitions.Slots.{longest, heardAs, heard, serviceJudged, receptionJudged, delivers, ending, reportAfter, memoryJudged, coreJudged, chooses, choiceMade, startMade, followsOn, drivesAs, drives, sampleOf, judgedSlot, sampledSlot, activeSlot}
+use Rattle.rules.specs.Definitions.Slots.{heardAs, heard, serviceJudged, receptionJudged, delivers, ending, reportAfter, memoryJudged, coreJudged, chooses, choiceMade, startMade, followsOn, drivesAs, drives, sampleOf, judgedSlot, sampledSlot, activeSlot}
 use Rattle.rules.specs.Definitions.Host.{resetAll}
 use Rattle.rules.specs.Definitions.Run.{fresh, answered, next}
 use Rattle.rules.specs.Statements.Tally.{Tally, none}
@@ -144,8 +145,8 @@ idle-error k =
 choice-error : (m : List ℕ) (k : Core) → choiceMade m k .report .error ≡ k .report .error
 unfolding choiceMade reportSending
 choice-error m k =
-    picked (λ (x : Core). x .report .error ≡ k .report .error) (chooses k) (pick (serving (choose m longest)) (withService (withReport k (reportSending (k .report) (choose m longest))) (choose m longest)) k) k
-    (λ e. picked (λ (x : Core). x .report .error ≡ k .report .error) (serving (choose m longest)) (withService (withReport k (reportSending (k .report) (choose m longest))) (choose m longest)) k (λ d. refl) (λ d. refl)) (λ e. refl)
+    picked (λ (x : Core). x .report .error ≡ k .report .error) (chooses k) (pick (serving (choose m (longestOf k))) (withService (withReport k (reportSending (k .report) (choose m (longestOf k)))) (choose m (longestOf k))) k) k
+    (λ e. picked (λ (x : Core). x .report .error ≡ k .report .error) (serving (choose m (longestOf k))) (withService (withReport k (reportSending (k .report) (choose m (longestOf k)))) (choose m (longestOf k))) k (λ d. refl) (λ d. refl)) (λ e. refl)
 
 follows-error : (m : List ℕ) (k : Core) → followsOn m k .report .error ≡ k .report .error
 unfolding followsOn startMade
@@ -425,7 +426,7 @@ unfolding receiverLevel
 invariant-owed {longest} r s t f g o rest n e = owed-in longest r s f g o rest n e (r .place .phase) (t .holds)
 
 module _ (c : Controller) (l : Log) (i : Logs c l) where
-  owing : role c ≡ Receiver → receiverLevel (c .core .reception) ≡ 0 → Owing l
+  owing : role c ≡ Receiver → receiverLevel (c .core .reception) ≡ 0 → Owing (longestOf (c .core)) l
   owing q h =
       let z = receiver-is c q in
       let f : Following (c .core .reception) l = following-at (i .stands .stage) (z .0) (z .1) in
@@ -440,11 +441,11 @@ module _ (c : Controller) (l : Log) (i : Logs c l) where
         samples = o .samples;
       }
 
-  only-owed : drives (c .core) ≡ 0 → (role c ≡ Sender → ⊥) → Owing l
+  only-owed : drives (c .core) ≡ 0 → (role c ≡ Sender → ⊥) → Owing (longestOf (c .core)) l
   unfolding drives
   only-owed h n = go (role c) refl h
     where
-      go : (x : Role) → role c ≡ x → drivesAs x (c .core) ≡ 0 → Owing l
+      go : (x : Role) → role c ≡ x → drivesAs x (c .core) ≡ 0 → Owing (longestOf (c .core)) l
       go Nobody e d = absurd (let z : _≡_ {A = ℕ} 1 0 = unfold drivesAs in d in omega arith)
       go Receiver e d = owing e (unfold drivesAs in d)
       go Sender e d = absurd (n e)

@@ -12,6 +12,7 @@ use Rattle.line.specs.Bits.{pick}
 use Rattle.line.specs.Frame.{Fits}
 use Rattle.line.proofs.Laws.{picked}
 use Rattle.rules.specs.Definitions.Setters.{withActivity, withReport, withService}
+use Rattle.rules.specs.Definitions.Longest.{longestOf}
 use Rattle.rules.specs.Definitions.Registers.{both, lineControl, diagnosisControl, command, interruptReset, transmitControl, retrySetting, autonomous, asksIdle, asksActivation, asksRearbitration, inputLevel, inverted, sampled, selectedInput, invertsReceive}
 use Rattle.rules.specs.Definitions.Channels.{lowestReady}
 use Rattle.rules.specs.Definitions.Reception.{atPlace, quiet, isUnderWay, underWay, behind, inBody, isBody, free, startEnded}
@@ -19,7 +20,7 @@ use Rattle.rules.proofs.Receiving.InvariantLaws.{invariant-under-way}
 use Rattle.rules.specs.Definitions.Attempt.{atStage, betweenAttempts, isBetween, drivesFrame, isDriving, judge, noCounts, inService, isServing, waits, isWaiting, exhausted}
 use Rattle.rules.specs.Definitions.Service.{resting, stopped, settled, reportSending, reportEnded, chosen, choiceOf, choose, opened, started, abortAsked, rearAsked, aborts}
 use Rattle.rules.specs.Definitions.State.{isActive, inMode, serving, resetCore, idled, idleDue, slept, idleAsked, activated}
-use Rattle.rules.specs.Definitions.Slots.{longest, heard, ending, memoryJudged, coreJudged, chooses, choiceMade, startMade, followsOn, sampleOf, judgedSlot, sampledSlot, activeSlot}
+use Rattle.rules.specs.Definitions.Slots.{heard, ending, memoryJudged, coreJudged, chooses, choiceMade, startMade, followsOn, sampleOf, judgedSlot, sampledSlot, activeSlot}
 use Rattle.rules.specs.Definitions.Host.{resetAll, resets, sleeps, modeCommanded, rearCommanded, flagsCleared, coreWritten, serviceAsked, stoppedCore, byteWritten, written}
 use Rattle.rules.specs.Definitions.Run.{accept, answered, restedSlot, step, next}
 use Rattle.rules.specs.Statements.Tally.{Stand, away, between, opening, inside, Tally, isAway}
@@ -93,9 +94,9 @@ free-to-choose true false true e = absurd (false≢true e)
 free-to-choose true false false e = refl
 free-to-choose false b u e = absurd (false≢true e)
 
-chosen-stands : (l : Log) (m : List ℕ) (k : Core) (x : Report) → underWay (k .reception .place) ≡ false → StandsIn l (withService (withReport k x) (choose m longest))
+chosen-stands : (l : Log) (m : List ℕ) (k : Core) (x : Report) → underWay (k .reception .place) ≡ false → StandsIn l (withService (withReport k x) (choose m (longestOf k)))
 unfolding choose
-chosen-stands l m k x u = record { going = chosen-going m (lowestReady m longest); stage = apart (chosen-apart m (lowestReady m longest)) u }
+chosen-stands l m k x u = record { going = chosen-going m (lowestReady m (longestOf k)); stage = apart (chosen-apart m (lowestReady m (longestOf k))) u }
 
 chooses-quiet : (k : Core) → chooses k ≡ true → underWay (k .reception .place) ≡ false
 unfolding chooses
@@ -105,7 +106,7 @@ choice-stands : (l : Log) (m : List ℕ) (k : Core) → StandsIn l k → StandsI
 unfolding choiceMade
 choice-stands l m k a =
     picked (StandsIn l) (chooses k) _ k
-    (λ e. picked (StandsIn l) (serving (choose m longest)) _ k (λ d. chosen-stands l m k (reportSending (k .report) (choose m longest)) (chooses-quiet k e)) (λ d. a))
+    (λ e. picked (StandsIn l) (serving (choose m (longestOf k))) _ k (λ d. chosen-stands l m k (reportSending (k .report) (choose m (longestOf k))) (chooses-quiet k e)) (λ d. a))
     (λ e. a)
 
 -- ---- the start

@@ -255,12 +255,12 @@ chosen-good m b (Lowest c) =
     unfold chosenT none taken in
     record { errors = omega arith; setting = setting-small m b; spent = omega arith; stands = tt; fits = λ e. (fits-sent m c b, unfold sentFrame in refl) }
 
-choose-good-in : (s : Stand) (t : Tally) (m : List ℕ) (a : Bool) (r : Reception) → Below 256 m → Good t → Good (chooseIn s t m a r)
+choose-good-in : (s : Stand) (t : Tally) (m : List ℕ) (longest : ℕ) (a : Bool) (r : Reception) → Below 256 m → Good t → Good (chooseIn s t m longest a r)
 unfolding chooseIn
-choose-good-in away t m a r b g = pick-good a (pick-good (underWay (r .place)) g (chosen-good m b (lowestReady m 30))) g
-choose-good-in between t m a r b g = g
-choose-good-in (opening start) t m a r b g = g
-choose-good-in (inside start levels) t m a r b g = g
+choose-good-in away t m longest a r b g = pick-good a (pick-good (underWay (r .place)) g (chosen-good m b (lowestReady m longest))) g
+choose-good-in between t m longest a r b g = g
+choose-good-in (opening start) t m longest a r b g = g
+choose-good-in (inside start levels) t m longest a r b g = g
 
 opened-good : (t : Tally) (start : ℕ) → Origin start → t .stand ≡ between → Good t → Good (tally.withStand t (opening start))
 unfolding taken
@@ -282,9 +282,9 @@ start-good-in between t m l r e g =
 start-good-in (opening start) t m l r e g = g
 start-good-in (inside start levels) t m l r e g = g
 
-pub after-good : (t : Tally) (m : List ℕ) (a : Bool) (l : Line) (r : Reception) → Below 256 m → Good t → Good (startT (chooseT t m a r) m l r)
+pub after-good : (t : Tally) (m : List ℕ) (longest : ℕ) (a : Bool) (l : Line) (r : Reception) → Below 256 m → Good t → Good (startT (chooseT t m longest a r) m l r)
 unfolding startT chooseT
-after-good t m a l r b g = start-good-in (chooseIn (t .stand) t m a r .stand) (chooseIn (t .stand) t m a r) m l r refl (choose-good-in (t .stand) t m a r b g)
+after-good t m longest a l r b g = start-good-in (chooseIn (t .stand) t m longest a r .stand) (chooseIn (t .stand) t m longest a r) m l r refl (choose-good-in (t .stand) t m longest a r b g)
 
 asking-good : (t : Tally) (a r : Bool) → Good t → Good (tally.withRear (tally.withAbort t a) r)
 asking-good t a r g = record { errors = g .errors; setting = g .setting; spent = g .spent; stands = g .stands; fits = g .fits }

@@ -13,6 +13,7 @@ use Rattle.rules.specs.Definitions.Registers.{resetReport}
 use Rattle.rules.specs.Definitions.Mailbox.{coded}
 use Rattle.rules.specs.Definitions.Attempt.{levelAt, judge, drivesFrame, isDriving, atStage, isBetween, betweenAttempts}
 use Rattle.rules.specs.Definitions.Service.{roleOf, resting, stopped, endingOf, settled}
+use Rattle.rules.specs.Definitions.Longest.{longestOf}
 use Rattle.rules.specs.Definitions.State.{isActive, resetCore, slept}
 use Rattle.rules.specs.Definitions.Slots.{heard, serviceJudged, ending, memoryJudged, coreJudged, drivesAs, drives, sampleOf, judgedSlot, sampledSlot, activeSlot}
 use Rattle.rules.specs.Definitions.Host.{resetAll, resets, sleeps, coreWritten, serviceAsked, byteWritten, written}
@@ -153,7 +154,7 @@ module _ (c : Controller) (t : Tally) (j : Joined c t) (v : ℕ) where
   unfolding afterSlot
   slot-good b =
       let x : Controller = sampledSlot c v in
-      after-good (endedT (countedT t (drives (c .core)) v)) (x .memory) (isActive (x .core .activity .mode)) (x .core .line) (x .core .reception) b
+      after-good (endedT (countedT t (drives (c .core)) v)) (x .memory) (longestOf (x .core)) (isActive (x .core .activity .mode)) (x .core .line) (x .core .reception) b
       (counted-good t (j .good) (drives (c .core)) v (level-is c t j) .0)
 
 -- ---- every event

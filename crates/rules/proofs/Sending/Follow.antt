@@ -7,6 +7,7 @@ use lib.Dec.{eqb}
 use lib.ListN.{getD}
 use Rattle.line.specs.Bits.{pick}
 use Rattle.rules.specs.Definitions.Setters.{withActivity, withReport, withLine, withService}
+use Rattle.rules.specs.Definitions.Longest.{longestOf}
 use Rattle.rules.specs.Definitions.Registers.{command, interruptReset, transmitControl, autonomous, unless, cleared, asksIdle, asksActivation}
 use Rattle.rules.specs.Definitions.Channels.{lowestReady, acknowledgeAsked}
 use Rattle.rules.specs.Definitions.Reception.{underWay, unsettled}
@@ -14,7 +15,7 @@ use Rattle.rules.specs.Definitions.Delivery.{receiveError, reportStored,
 use Rattle.rules.specs.Definitions.Attempt.{inService, isServing, atStage}
 use Rattle.rules.specs.Definitions.Service.{resting, stopped, settled, reportSending, reportJudged, reportEnded, chosen, choiceOf, choose, started}
 use Rattle.rules.specs.Definitions.State.{isActive, inMode, serving, idled, idleDue, idleAsked, activated}
-use Rattle.rules.specs.Definitions.Slots.{longest, delivers, serviceJudged, ending, reportAfter, chooses, choiceMade, startMade, followsOn}
+use Rattle.rules.specs.Definitions.Slots.{delivers, serviceJudged, ending, reportAfter, chooses, choiceMade, startMade, followsOn}
 use Rattle.rules.specs.Definitions.Host.{modeCommanded, flagsCleared, coreWritten, stoppedCore}
 use Rattle.rules.specs.Statements.Tally.{Stand, away, between, opening, inside, Tally, choiceT, chooseIn, chooseT, startT}
 use Rattle.rules.proofs.Sending.Join.{made, serviceIn, serviceOf, choose-is, started-is}
@@ -58,11 +59,11 @@ module _ (m : List ℕ) (k : Core) where
   chosenCore : Service → Core
   chosenCore s = withService (withReport k (reportSending (k .report) s)) s
 
-  choice-leaves : {B : Type 0} (f : Core → B) → f (chosenCore (choose m longest)) ≡ f k → f (choiceMade m k) ≡ f k
+  choice-leaves : {B : Type 0} (f : Core → B) → f (chosenCore (choose m (longestOf k))) ≡ f k → f (choiceMade m k) ≡ f k
   unfolding choiceMade chosenCore
   choice-leaves f e =
-      left f (chooses k) (pick (serving (choose m longest)) (withService (withReport k (reportSending (k .report) (choose m longest))) (choose m longest)) k) k (f k)
-      (left f (serving (choose m longest)) (withService (withReport k (reportSending (k .report) (choose m longest))) (choose m longest)) k (f k) e refl) refl
+      left f (chooses k) (pick (serving (choose m (longestOf k))) (withService (withReport k (reportSending (k .report) (choose m (longestOf k)))) (choose m (longestOf k))) k) k (f k)
+      (left f (serving (choose m (longestOf k))) (withService (withReport k (reportSending (k .report) (choose m (longestOf k)))) (choose m (longestOf k))) k (f k) e refl) refl
 
   pub choice-activity : choiceMade m k .activity ≡ k .activity
   choice-activity = choice-leaves (λ x. x .activity) (unfold chosenCore in refl)
@@ -87,7 +88,7 @@ module _ (m : List ℕ) (k : Core) where
 
   -- with no service
   away-service : (t : Tally) → t .stand ≡ away → k .service ≡ serviceIn away t
-      → choiceMade m k .service ≡ serviceOf (chooseIn away t m (isActive (k .activity .mode)) (k .reception))
+      → choiceMade m k .service ≡ serviceOf (chooseIn away t m (longestOf k) (isActive (k .activity .mode)) (k .reception))
   unfolding choiceMade chooseIn choose serviceIn serviceOf
   away-service t e s =
       rw (chooses-as false (rw s (unfold serving resting inService isServing atStage in refl))) (go (isActive (k .activity .mode)) (underWay (k .reception .place)))
@@ -95,7 +96,7 @@ module _ (m : List ℕ) (k : Core) where
       same : k .service ≡ serviceOf t
       same = s ∙ ap (λ (x : Stand). serviceIn x t) (sym e)
 
-      go : (a u : Bool) → pick (pick a (pick false false (pick u false true)) false) (pick (serving (choiceOf m (lowestReady m longest))) (withService (withReport k (reportSending (k .report) (choiceOf m (lowestReady m longest)))) (choiceOf m (lowestReady m longest))) k) k .service
+      go : (a u : Bool) → pick (pick a (pick false false (pick u false true)) false) (pick (serving (choiceOf m (lowestReady m (longestOf k)))) (withService (withReport k (reportSending (k .report) (choiceOf m (lowestReady m (longestOf k))))) (choiceOf m (lowestReady m (longestOf k)))) k) k .service
           ≡ serviceOf (pick a (pick u t (choiceT m (lowestReady m 30))) t)
       go false u = same
       go true true = same
@@ -106,18 +107,18 @@ module _ (m : List ℕ) (k : Core) where
   unfolding choiceMade
   busy-service e = rw (chooses-as true e) (go (isActive (k .activity .mode)))
     where
-      go : (a : Bool) → pick (pick a (pick true false (pick (underWay (k .reception .place)) false true)) false) (pick (serving (choose m longest)) (withService (withReport k (reportSending (k .report) (choose m longest))) (choose m longest)) k) k .service ≡ k .service
+      go : (a : Bool) → pick (pick a (pick true false (pick (underWay (k .reception .place)) false true)) false) (pick (serving (choose m (longestOf k))) (withService (withReport k (reportSending (k .report) (choose m (longestOf k)))) (choose m (longestOf k))) k) k .service ≡ k .service
       go true = refl
       go false = refl
 
   choice-service-in : (s : Stand) (t : Tally) → t .stand ≡ s → k .service ≡ serviceIn s t
-      → choiceMade m k .service ≡ serviceOf (chooseIn s t m (isActive (k .activity .mode)) (k .reception))
+      → choiceMade m k .service ≡ serviceOf (chooseIn s t m (longestOf k) (isActive (k .activity .mode)) (k .reception))
   choice-service-in away t e d = away-service t e d
   choice-service-in between t e d = unfold chooseIn in (busy-service (rw d (unfold serviceIn made serving inService isServing atStage in refl)) ∙ d ∙ unfold serviceOf in ap (λ (x : Stand). serviceIn x t) (sym e))
   choice-service-in (opening start) t e d = unfold chooseIn in (busy-service (rw d (unfold serviceIn made serving inService isServing atStage in refl)) ∙ d ∙ unfold serviceOf in ap (λ (x : Stand). serviceIn x t) (sym e))
   choice-service-in (inside start levels) t e d = unfold chooseIn in (busy-service (rw d (unfold serviceIn made serving inService isServing atStage in refl)) ∙ d ∙ unfold serviceOf in ap (λ (x : Stand). serviceIn x t) (sym e))
 
-  pub choice-service : (t : Tally) → k .service ≡ serviceOf t → choiceMade m k .service ≡ serviceOf (chooseT t m (isActive (k .activity .mode)) (k .reception))
+  pub choice-service : (t : Tally) → k .service ≡ serviceOf t → choiceMade m k .service ≡ serviceOf (chooseT t m (longestOf k) (isActive (k .activity .mode)) (k .reception))
   unfolding serviceOf chooseT
   choice-service t d = choice-service-in (t .stand) t refl d
 
@@ -195,14 +196,14 @@ module _ (m : List ℕ) (k : Core) where
 
   -- the service after choice and start is that of the tally after them
   pub follows-service : (t : Tally) → k .service ≡ serviceOf t
-      → followsOn m k .service ≡ serviceOf (startT (chooseT t m (isActive (followsOn m k .activity .mode)) (followsOn m k .reception)) m (followsOn m k .line) (followsOn m k .reception))
+      → followsOn m k .service ≡ serviceOf (startT (chooseT t m (longestOf k) (isActive (followsOn m k .activity .mode)) (followsOn m k .reception)) m (followsOn m k .line) (followsOn m k .reception))
   unfolding followsOn startMade
   follows-service t e =
       let x : Core = idleDue k in
-      let s : choiceMade m x .service ≡ serviceOf (chooseT t m (isActive (x .activity .mode)) (x .reception)) = choice-service m x t (idle-service k ∙ e) in
+      let s : choiceMade m x .service ≡ serviceOf (chooseT t m (longestOf k) (isActive (x .activity .mode)) (x .reception)) = choice-service m x t (idle-service k ∙ e) in
       rw (choice-activity m x, choice-line m x, choice-reception m x)
       (ap (λ (y : Service). started y (autonomous (getD m transmitControl 0)) (x .line) (x .reception)) s
-      ∙ started-is m (x .line) (x .reception) (chooseT t m (isActive (x .activity .mode)) (x .reception)))
+      ∙ started-is m (x .line) (x .reception) (chooseT t m (longestOf k) (isActive (x .activity .mode)) (x .reception)))
 
 -- ---- a host write
 

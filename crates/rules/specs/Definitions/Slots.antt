@@ -8,6 +8,7 @@ use mathlib.Core.List.{List}
 use lib.ListN.{getD}
 use Rattle.line.specs.Bits.{pick}
 use Rattle.rules.specs.Definitions.Setters.{withEffort, withReport, withLine, withReception, withService}
+use Rattle.rules.specs.Definitions.Longest.{longestOf}
 use Rattle.rules.specs.Definitions.Registers.{lineControl, transmitControl, diagnosisControl, autonomous, sampled}
 use Rattle.rules.specs.Definitions.Reception.{underWay, commandEnded, winnerTaken}
 use Rattle.rules.specs.Definitions.Hearing.{lineAfter, receptionAfter, hearFrame, hearQuiet, receiverLevel}
@@ -29,15 +30,11 @@ use Rattle.rules.specs.declared.Role.the-variants.{Nobody, Receiver, Sen
 use Rattle.rules.specs.declared.Core.{Core}
 use Rattle.rules.specs.declared.Controller.{Controller}
 
--- the longest data field
-abbrev pub longest : ℕ
-longest = 30
-
 -- ---- what a sample is
 
 unfoldable pub heardAs : Role → Core → Verdict → ℕ → Hearing
 heardAs Nobody k w v = hearQuiet (k .line) v
-heardAs Receiver k w v = hearFrame (k .reception) longest v
+heardAs Receiver k w v = hearFrame (k .reception) (longestOf k) v
 heardAs Sender k w v = hearOwn w
 
 unfoldable pub heard : Core → Verdict → ℕ → Hearing
@@ -91,7 +88,7 @@ chooses k = pick (isActive (k .activity .mode)) (pick (serving (k .service)) fal
 unfoldable pub choiceMade : List ℕ → Core → Core
 choiceMade m k =
     pick (chooses k)
-    (pick (serving (choose m longest)) (withService (withReport k (reportSending (k .report) (choose m longest))) (choose m longest)) k)
+    (pick (serving (choose m (longestOf k))) (withService (withReport k (reportSending (k .report) (choose m (longestOf k)))) (choose m (longestOf k))) k)
     k
 
 unfoldable pub startMade : List ℕ → Core → Core

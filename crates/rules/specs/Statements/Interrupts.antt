@@ -7,13 +7,14 @@ use mathlib.Core.Bool.{Bool, true, false}
 use mathlib.Core.List.{List}
 use mathlib.Core.Path.{_≡_}
 use lib.ListN.{getD}
+use Rattle.rules.specs.Definitions.Longest.{longestOf}
 use Rattle.rules.specs.Definitions.Registers.{interruptStatusAt, interruptEnable, bit, interruptStatus}
 use Rattle.rules.specs.Definitions.Channels.{acknowledgeAsked}
 use Rattle.rules.specs.Statements.Bits.{bitAt}
 use Rattle.rules.specs.Definitions.Reception.{dataCount}
 use Rattle.rules.specs.Definitions.Hearing.{fits, hearFrame}
 use Rattle.rules.specs.Definitions.State.{isActive}
-use Rattle.rules.specs.Definitions.Slots.{longest, ending, sampleOf}
+use Rattle.rules.specs.Definitions.Slots.{ending, sampleOf}
 use Rattle.rules.specs.Definitions.Host.{byteRead, interruptLine}
 use Rattle.rules.specs.Definitions.Run.{fresh, next, after}
 use Rattle.rules.specs.Statements.Sending.{accepted}
@@ -68,7 +69,7 @@ pub record Received (c : Controller) (levels : ℕ) : Type 0 where
 
 -- the receiver's judgement of the slot: Good in the eighth end-of-frame slot of a valid frame
 abbrev pub hearingIn : Controller → ℕ → Hearing
-hearingIn c levels = hearFrame (c .core .reception) longest (sampleOf c levels)
+hearingIn c levels = hearFrame (c .core .reception) (longestOf (c .core)) (sampleOf c levels)
 
 -- "n + 1 is at most M_L"
 abbrev pub fitting : Controller → Bool

@@ -11,6 +11,7 @@ use lib.Dec.{eqb, ltb}
 use lib.ListN.{length, getD, take}
 use Rattle.line.specs.Bits.{pick}
 use Rattle.line.specs.Frame.{Frame, Fits, slots}
+use Rattle.rules.specs.Definitions.Longest.{longestOf}
 use Rattle.rules.specs.Definitions.Registers.{BOV}
 use Rattle.rules.specs.Definitions.Channels.{winnerFor}
 use Rattle.rules.specs.Definitions.Mailbox.{statusByte, laidFrom, retagged, markedCher, markedChrx}
@@ -99,7 +100,7 @@ pub record Heeds (c : Controller) (levels : ℕ) : Type 0 where
 -- the samples are a valid frame, whole, and the memory map shows it
 pub record Taken (c : Controller) (l : Log) (levels : ℕ) : Type 0 where
   pub frame : Frame
-  pub fits : Fits 30 frame
+  pub fits : Fits (longestOf (c .core)) frame
   pub whole : l .samples ++ (sampleOf c levels ∷ []) ≡ slots frame
   pub valid : Valid (taker l frame) frame
   pub memory : next c (Slot levels) .memory ≡ received (c .memory) (taker l frame) frame
@@ -110,10 +111,10 @@ pub record Delivers (c : Controller) (l : Log) (levels : ℕ) : Type 0 where
   -- what is delivered is a whole valid frame
   pub good : hears c levels ≡ Good → Taken c l levels
   -- a frame whose last slot is reached without a fault is delivered
-  pub complete : (f : Frame) → Fits 30 f → l .samples ++ (sampleOf c levels ∷ []) ≡ slots f → hears c levels ≡ Good
+  pub complete : (f : Frame) → Fits (longestOf (c .core)) f → l .samples ++ (sampleOf c levels ∷ []) ≡ slots f → hears c levels ≡ Good
   -- a fault is heard only where the samples open no valid frame
   pub faultless : (code : ℕ) → hears c levels ≡ Fault code
-      → (f : Frame) → Fits 30 f → Valid (taker l f) f → (rest : List ℕ) → l .samples ++ (sampleOf c levels ∷ rest) ≡ slots f → ⊥
+      → (f : Frame) → Fits (longestOf (c .core)) f → Valid (taker l f) f → (rest : List ℕ) → l .samples ++ (sampleOf c levels ∷ rest) ≡ slots f → ⊥
   -- every other slot follows
   pub silent : hears c levels ≡ Silent → ⊥
   -- before the last slot no byte of the mailbox changes
@@ -128,9 +129,9 @@ DeliversIn c l (Slot levels) = accepted c (Slot levels) ≡ true → isActive (c
 -- ---- the acknowledge
 
 -- a valid frame that asks for an acknowledge and whose taker gives it; so far all slots before the acknowledge are sampled, and its first
-pub record Owing (l : Log) : Type 0 where
+pub record Owing (longest : ℕ) (l : Log) : Type 0 where
   pub frame : Frame
-  pub fits : Fits 30 frame
+  pub fits : Fits longest frame
   pub valid : Valid (taker l frame) frame
   pub owed : owes (taker l frame) frame ≡ true
   pub first : ℕ
@@ -138,9 +139,9 @@ pub record Owing (l : Log) : Type 0 where
 
 pub record Acknowledges (c : Controller) (l : Log) : Type 0 where
   -- the level for the next slot is dominant and the model isn't the sender: such a frame stands there
-  pub only : drives (c .core) ≡ 0 → (role c ≡ Sender → ⊥) → Owing l
+  pub only : drives (c .core) ≡ 0 → (role c ≡ Sender → ⊥) → Owing (longestOf (c .core)) l
   -- and where one does, with nine slots to come, the level is dominant
-  pub due : role c ≡ Receiver → (f : Frame) → Fits 30 f → owes (taker l f) f ≡ true → (rest : List ℕ) → length rest ≡ 9 → l .samples ++ rest ≡ slots f → drives (c .core) ≡ 0
+  pub due : role c ≡ Receiver → (f : Frame) → Fits (longestOf (c .core)) f → owes (taker l f) f ≡ true → (rest : List ℕ) → length rest ≡ 9 → l .samples ++ rest ≡ slots f → drives (c .core) ≡ 0
 
 -- ---- every event
 

@@ -9,6 +9,7 @@ use lib.Dec.{eqb}
 use lib.ListN.{length, drop}
 use Rattle.line.specs.Bits.{pick}
 use Rattle.line.specs.Frame.{Frame, Fits, slots, size}
+use Rattle.rules.specs.Definitions.Longest.{longestOf}
 use Rattle.rules.specs.Definitions.State.{isActive}
 use Rattle.rules.specs.Definitions.Slots.{drives, sampleOf}
 use Rattle.rules.specs.Definitions.Host.{resets, sleeps}
@@ -32,7 +33,7 @@ seenIn c t (Slot levels) = pick (isActive (c .core .activity .mode)) (countedT t
 
 unfoldable pub afterSlot : Tally → Controller → Tally
 afterSlot t c =
-    startT (chooseT t (c .memory) (isActive (c .core .activity .mode)) (c .core .reception)) (c .memory) (c .core .line) (c .core .reception)
+    startT (chooseT t (c .memory) (longestOf (c .core)) (isActive (c .core .activity .mode)) (c .core .reception)) (c .memory) (c .core .line) (c .core .reception)
 
 unfoldable pub followIn : Controller → Tally → Event → Tally
 followIn c t Reset = none
@@ -77,8 +78,8 @@ te c = c .core .report .flags .te
 
 -- t is the tally before the event, j = seenT c t e once its sample is judged
 pub record Claim (c : Controller) (t : Tally) (e : Event) : Type 0 where
-  -- the service's frame is one frame of at most 30 data bytes
-  pub fits : isAway (t .stand) ≡ false → Fits 30 (t .frame)
+  -- the service's frame is one frame, no longer than the controller sends
+  pub fits : isAway (t .stand) ≡ false → Fits (longestOf (c .core)) (t .frame)
   pub driven : accepted c e ≡ true → InSlot e (Drives (t .stand) (t .frame) (drives (c .core)))
   -- "At most R + 1 attempts end in error."
   pub errors : seenT c t e .errors ≤ seenT c t e .setting + 1

@@ -168,14 +168,14 @@ choiceT m Nothing = none
 choiceT m (Lowest c) = chosenT m c
 
 -- "if active with no frame under way and no service"
-unfoldable pub chooseIn : Stand → Tally → List ℕ → Bool → Reception → Tally
-chooseIn away t m active r = pick active (pick (underWay (r .place)) t (choiceT m (lowestReady m 30))) t
-chooseIn between t m active r = t
-chooseIn (opening start) t m active r = t
-chooseIn (inside start levels) t m active r = t
+unfoldable pub chooseIn : Stand → Tally → List ℕ → ℕ → Bool → Reception → Tally
+chooseIn away t m longest active r = pick active (pick (underWay (r .place)) t (choiceT m (lowestReady m longest))) t
+chooseIn between t m longest active r = t
+chooseIn (opening start) t m longest active r = t
+chooseIn (inside start levels) t m longest active r = t
 
-unfoldable pub chooseT : Tally → List ℕ → Bool → Reception → Tally
-chooseT t m active r = chooseIn (t .stand) t m active r
+unfoldable pub chooseT : Tally → List ℕ → ℕ → Bool → Reception → Tally
+chooseT t m longest active r = chooseIn (t .stand) t m longest active r
 
 -- "MT 1 starts at once on a free line; either type joins a clean start sequence."
 unfoldable pub startIn : Stand → Tally → List ℕ → Line → Reception → Tally
