@@ -20,7 +20,7 @@ use Rattle.rules.specs.Statements.Valid.{high, low}
 use Rattle.rules.specs.Definitions.Delivery.{memoryStored, memoryDelivered}
 use Rattle.rules.specs.Definitions.Service.{memoryEnded}
 use Rattle.rules.specs.Definitions.Slots.{memoryJudged, judgedSlot, sampledSlot, activeSlot}
-use Rattle.rules.specs.Definitions.Host.{resetAll, resets, sleeps, keptByte, byteWritten, written}
+use Rattle.rules.specs.Definitions.Host.{resetAll, resets, sleeps, keptByte, byteWritten, hostWritten}
 use Rattle.rules.specs.Definitions.Run.{fresh, refuse, accept, answered, restedSlot, next, after}
 use Rattle.rules.proofs.Steps.{Step, refusal, reset, wrote, gave, went, rested, step-of}
 use Rattle.rules.specs.Statements.Receiving.{storedFrame, received}
@@ -165,8 +165,8 @@ reset-length : (m : List ℕ) → length (resetMemory m) ≡ length m
 unfolding resetMemory
 reset-length m = simp length-set
 
-written-length : (c : Controller) (a v : ℕ) → length (written c a v .memory) ≡ length (c .memory)
-unfolding written resetAll byteWritten keptByte
+written-length : (c : Controller) (a v : ℕ) → length (hostWritten c a v .memory) ≡ length (c .memory)
+unfolding hostWritten resetAll byteWritten keptByte
 written-length c a v =
     picked (λ (x : Controller). length (x .memory) ≡ length (c .memory)) (resets a v) (resetAll c) _ (λ e. reset-length (c .memory))
     (λ e. picked (λ (x : Controller). length (x .memory) ≡ length (c .memory)) (sleeps a v) _ (byteWritten c a v) (λ d. refl)

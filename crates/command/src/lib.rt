@@ -217,8 +217,8 @@ pub fn reset(m: &mut [u8; 256]) -> Core
 }
 
 // An accepted write: GRES, else SLEEP, else the byte and what it asks.
-pub fn written(m: &mut [u8; 256], k: Core, address: usize, v: u8) -> Core
-    ensures { λ r. ⌜ answers.controller (now (m .exit)) r ≡ rule.written (answers.controller (now (m .entry)) k) address v ⌝ }
+pub fn host_written(m: &mut [u8; 256], k: Core, address: usize, v: u8) -> Core
+    ensures { λ r. ⌜ answers.controller (now (m .exit)) r ≡ rule.hostWritten (answers.controller (now (m .entry)) k) address v ⌝ }
 {
     if resets(address, v) {
         return reset(m);

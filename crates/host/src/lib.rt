@@ -1,8 +1,6 @@
 // Pin reset and host write over a lent memory map, and their refusals (01, Memory map; Numbers refused).
 ghost use mathlib.Core.Path.{_≡_};
 ghost use Prim.Native.Nat.{_%_};
-ghost use lib.Dec.{eqb};
-ghost use Rattle.line.specs.Bits.{pick};
 ghost use Rattle.rules.specs.Definitions.Host as rule;
 ghost use Rattle.rules.specs.Definitions.Run as run;
 ghost use Rattle.rules.specs.Definitions.Answers as answers;
@@ -31,7 +29,7 @@ pub fn pin_reset_on(m: &mut [u8; 256], k: Core) -> CoreOutcome
 
 // 2, 3, 8, once the access is open.
 fn write_on(m: &mut [u8; 256], k: Core, address: u16, value: u16) -> CoreOutcome
-    ensures { λ r. ⌜ answers.answerLent r (now (m .exit)) ≡ pick (eqb (rule.writeRefused address value) 0) (run.accept 0 (rule.written (answers.controller (now (m .entry)) k) address (value % 256))) (run.refuse (answers.controller (now (m .entry)) k) (rule.writeRefused address value)) ⌝ }
+    ensures { λ r. ⌜ answers.answerLent r (now (m .exit)) ≡ run.unlessRefused (answers.controller (now (m .entry)) k) (rule.writeRefusals address value) (run.accept 0 (rule.hostWritten (answers.controller (now (m .entry)) k) address (value % 256))) ⌝ }
 {
     let a = address as usize;
     if 255 < value {
@@ -54,7 +52,7 @@ fn write_on(m: &mut [u8; 256], k: Core, address: u16, value: u16) -> CoreOutcome
     }
     let v = (value % 256) as u8;
     if Map::fixed_bits(a, v) {
-        let t = command::written(m, k, a, v);
+        let t = command::host_written(m, k, a, v);
         return CoreOutcome {
             reply: Reply::Accepted(0), // only here the map changes
             next: t,

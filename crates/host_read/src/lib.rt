@@ -1,7 +1,5 @@
 // Host read over a lent memory map: what each register shows, and the refusals (01, Memory map; Numbers refused).
 ghost use mathlib.Core.Path.{_≡_};
-ghost use lib.Dec.{eqb};
-ghost use Rattle.line.specs.Bits.{pick};
 ghost use Rattle.rules.specs.Definitions.Host as rule;
 ghost use Rattle.rules.specs.Definitions.Run as run;
 ghost use Rattle.rules.specs.Definitions.Answers as answers;
@@ -58,7 +56,7 @@ fn byte_read(m: &[u8; 256], k: Core, address: usize) -> u8
 
 // 4, once the access is open.
 fn read_on(m: &[u8; 256], k: Core, address: u16) -> CoreOutcome
-    ensures { λ r. ⌜ answers.answerLent r (now (m .entry)) ≡ pick (eqb (rule.readRefused address) 0) (run.accept (rule.byteRead (answers.controller (now (m .entry)) k) address) (answers.controller (now (m .entry)) k)) (run.refuse (answers.controller (now (m .entry)) k) (rule.readRefused address)) ⌝ }
+    ensures { λ r. ⌜ answers.answerLent r (now (m .entry)) ≡ run.unlessRefused (answers.controller (now (m .entry)) k) (rule.readRefusals address) (run.accept (rule.byteRead (answers.controller (now (m .entry)) k) address) (answers.controller (now (m .entry)) k)) ⌝ }
 {
     let a = address as usize;
     if Map::write_only(a) {

@@ -11,6 +11,6 @@ pub mod Attempt
 pub mod Service
 pub mod State
 pub mod Slots
+pub mod Answers
 pub mod Host
 pub mod Run
-pub mod Answers

@@ -1,12 +1,12 @@
 use borrow.Author.Tests.{lt-ltb, le-ltb}
 use Rattle.rules.specs.Definitions.Answers.{answerLent, number, refusedBy, valueOf}
-use Rattle.rules.specs.Definitions.Run.{hostWrite, accept, refuse}
-use Rattle.rules.specs.Definitions.Host.{accessRefused, writeRefused}
+use Rattle.rules.specs.Definitions.Run.{hostWrite, accept, refuse, unlessRefused}
+use Rattle.rules.specs.Definitions.Host.{accessRefusals, writeRefusals}
 use Rattle.host.proofs.host_write_on.Statement.{statement}
 use Rattle.host.proofs.host_write_on.Tie as tie
 
 pub host-write-on-spec : {M : Type 1} → statement M
-unfolding answerLent number refusedBy valueOf hostWrite accept refuse accessRefused writeRefused
+unfolding answerLent number refusedBy valueOf hostWrite accept refuse unlessRefused accessRefusals writeRefusals
 host-write-on-spec =
     tie.close (tie.spec
     (λ c κs. tt)

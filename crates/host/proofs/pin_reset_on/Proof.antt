@@ -1,11 +1,11 @@
 use Rattle.rules.specs.Definitions.Answers.{answerLent, number, refusedBy, valueOf}
-use Rattle.rules.specs.Definitions.Run.{pinReset, accept, refuse}
+use Rattle.rules.specs.Definitions.Run.{pinReset, accept, refuse, unlessRefused}
 use Rattle.rules.specs.Definitions.Host.{resetAll}
 use Rattle.host.proofs.pin_reset_on.Statement.{statement}
 use Rattle.host.proofs.pin_reset_on.Tie as tie
 
 pub pin-reset-on-spec : {M : Type 1} → statement M
-unfolding answerLent number refusedBy valueOf pinReset accept refuse resetAll
+unfolding answerLent number refusedBy valueOf pinReset accept refuse unlessRefused resetAll
 pin-reset-on-spec =
     tie.close (tie.spec
     (λ c κs. tt)

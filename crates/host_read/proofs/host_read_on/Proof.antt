@@ -1,12 +1,12 @@
 use borrow.Author.Tests.{lt-ltb, le-ltb}
 use Rattle.rules.specs.Definitions.Answers.{answerLent, number, refusedBy, valueOf}
-use Rattle.rules.specs.Definitions.Run.{hostRead, accept, refuse}
-use Rattle.rules.specs.Definitions.Host.{accessRefused, readRefused}
+use Rattle.rules.specs.Definitions.Run.{hostRead, accept, refuse, unlessRefused}
+use Rattle.rules.specs.Definitions.Host.{accessRefusals, readRefusals}
 use Rattle.host_read.proofs.host_read_on.Statement.{statement}
 use Rattle.host_read.proofs.host_read_on.Tie as tie
 
 pub host-read-on-spec : {M : Type 1} → statement M
-unfolding answerLent number refusedBy valueOf hostRead accept refuse accessRefused readRefused
+unfolding answerLent number refusedBy valueOf hostRead accept refuse unlessRefused accessRefusals readRefusals
 host-read-on-spec =
     tie.close (tie.spec
     (λ c κs. tt)

@@ -1,11 +1,11 @@
 use Rattle.rules.specs.Definitions.Answers.{answerLent, number, refusedBy, valueOf}
-use Rattle.rules.specs.Definitions.Host.{readRefused, byteRead}
-use Rattle.rules.specs.Definitions.Run.{accept, refuse}
+use Rattle.rules.specs.Definitions.Host.{readRefusals, byteRead}
+use Rattle.rules.specs.Definitions.Run.{accept, refuse, unlessRefused}
 use Rattle.host_read.proofs.read_on.Statement.{statement}
 use Rattle.host_read.proofs.read_on.Tie as tie
 
 pub read-on-spec : {M : Type 1} → statement M
-unfolding answerLent number refusedBy valueOf readRefused byteRead accept refuse
+unfolding answerLent number refusedBy valueOf readRefusals byteRead accept refuse unlessRefused
 read-on-spec =
     tie.close (tie.spec
     (λ c κs. tt)

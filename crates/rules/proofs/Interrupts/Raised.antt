@@ -21,7 +21,7 @@ use Rattle.rules.specs.Definitions.Attempt.{largest, moreAttempts, judge
 use Rattle.rules.specs.Definitions.Service.{roleOf, stopped, endingOf, settled, reportSending, reportJudged, reportEnded}
 use Rattle.rules.specs.Definitions.State.{isActive, inMode, resetCore, idleDue, slept, idleAsked, activated}
 use Rattle.rules.specs.Definitions.Slots.{heardAs, heard, delivers, serviceJudged, ending, reportAfter, memoryJudged, coreJudged, startMade, followsOn, sampleOf, judgedSlot, sampledSlot, activeSlot}
-use Rattle.rules.specs.Definitions.Host.{resetAll, resets, sleeps, modeCommanded, flagsCleared, coreWritten, serviceAsked, stoppedCore, byteWritten, written}
+use Rattle.rules.specs.Definitions.Host.{resetAll, resets, sleeps, modeCommanded, flagsCleared, coreWritten, serviceAsked, stoppedCore, byteWritten, hostWritten}
 use Rattle.rules.specs.Definitions.Run.{fresh, accept, answered, restedSlot, step, next, after}
 use Rattle.rules.proofs.Ranges.Limits.{Fine}
 use Rattle.rules.proofs.Ranges.Service.{Judged, unjudged, goes, lost, failed, done, judged}
@@ -303,8 +303,8 @@ module _ (g : Flags → Bool) (c : Controller) (Cause : Event → Type 0)
   byte-clear a v e =
       ap g (stopped-flags (coreWritten (c .core) a v) (serviceAsked (c .core .service) a v)) ∙ ends a v (coreWritten (c .core) a v .report .flags) ∙ core-clear a v e
 
-  write-only : (a v : ℕ) → accepted c (Write a v) ≡ true → g (flagsOf c) ≡ false → g (written c a (v % 256) .core .report .flags) ≡ true → Cause (Write a v)
-  unfolding written
+  write-only : (a v : ℕ) → accepted c (Write a v) ≡ true → g (flagsOf c) ≡ false → g (hostWritten c a (v % 256) .core .report .flags) ≡ true → Cause (Write a v)
+  unfolding hostWritten
   write-only a v i e = go (resets a (v % 256)) refl (sleeps a (v % 256))
     where
       go : (x : Bool) → resets a (v % 256) ≡ x → (y : Bool)
@@ -326,8 +326,8 @@ module _ (g : Flags → Bool) (c : Controller) (Cause : Event → Type 0)
           let x : g (flagsOf (resetAll c)) ≡ true = sym (ap (λ (x : Controller). g (flagsOf x)) n) ∙ i in
           at-pin (reset-flags g c x) (accepted-so c Reset 0 (resetAll c) h)
       go (Write a v) (steps.wrote h) i =
-          let n : next c (Write a v) ≡ written c a (v % 256) = accepted-next c none (Write a v) 0 (written c a (v % 256)) h in
-          write-only a v (accepted-so c (Write a v) 0 (written c a (v % 256)) h) b (sym (ap (λ (x : Controller). g (flagsOf x)) n) ∙ i)
+          let n : next c (Write a v) ≡ hostWritten c a (v % 256) = accepted-next c none (Write a v) 0 (hostWritten c a (v % 256)) h in
+          write-only a v (accepted-so c (Write a v) 0 (hostWritten c a (v % 256)) h) b (sym (ap (λ (x : Controller). g (flagsOf x)) n) ∙ i)
       go (Read a) (steps.gave value h) i = same (Read a) (accepted-next c none (Read a) value c h) i
       go (Slot l) (steps.went a h) i =
           let s : Sampled c l = record { taken = unfold answered in accepted-so c (Slot l) _ (activeSlot c l) h; active = a } in
@@ -378,12 +378,12 @@ reset-raised c Reset (by-pin i) = go (step-of c Reset)
     go (steps.reset h) = ap (λ (x : Controller). flagsOf x .rst) (accepted-next c none Reset 0 (resetAll c) h) ∙ (unfold resetAll resetCore resetReport in refl)
 reset-raised c (Write a v) (by-command i p q) = go (step-of c (Write a v))
   where
-    at-once : written c a (v % 256) ≡ resetAll c
-    at-once = unfold written resets in rw (eq-eqb a command p, asks-so v q)
+    at-once : hostWritten c a (v % 256) ≡ resetAll c
+    at-once = unfold hostWritten resets in rw (eq-eqb a command p, asks-so v q)
 
     go : Step c (Write a v) → flagsOf (next c (Write a v)) .rst ≡ true
     go (steps.refusal n h) = clash (refused-not c none (Write a v) n h) i
-    go (steps.wrote h) = ap (λ (x : Controller). flagsOf x .rst) (accepted-next c none (Write a v) 0 (written c a (v % 256)) h ∙ at-once) ∙ (unfold resetAll resetCore resetReport in refl)
+    go (steps.wrote h) = ap (λ (x : Controller). flagsOf x .rst) (accepted-next c none (Write a v) 0 (hostWritten c a (v % 256)) h ∙ at-once) ∙ (unfold resetAll resetCore resetReport in refl)
 
 both-true : (a b : Bool) → both a b ≡ true → (a ≡ true) × (b ≡ true)
 both-true true b e = (refl, e)

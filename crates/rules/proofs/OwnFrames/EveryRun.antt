@@ -25,7 +25,7 @@ use Rattle.rules.specs.Definitions.Attempt.{atStage, inService, isServin
 use Rattle.rules.specs.Definitions.Service.{roleOf, resting, stopped, endingOf, settled, memoryEnded, started, abortAsked, rearAsked, aborts, hearOwn}
 use Rattle.rules.specs.Definitions.State.{isActive, serving, resetCore, idled, idleDue, slept}
 use Rattle.rules.specs.Definitions.Slots.{heardAs, heard, delivers, serviceJudged, ending, receptionJudged, memoryJudged, coreJudged, chooses, choiceMade, startMade, followsOn, drivesAs, drives, sampleOf, judgedSlot, sampledSlot, activeSlot}
-use Rattle.rules.specs.Definitions.Host.{resetAll, resets, sleeps, rearCommanded, coreWritten, serviceAsked, byteWritten, written}
+use Rattle.rules.specs.Definitions.Host.{resetAll, resets, sleeps, rearCommanded, coreWritten, serviceAsked, byteWritten, hostWritten}
 use Rattle.rules.specs.Definitions.Run.{fresh, answered, restedSlot, next, after}
 use Rattle.rules.proofs.Ranges.Limits.{Fine}
 use Rattle.rules.proofs.Sending.Frames.{level-coded}
@@ -279,8 +279,8 @@ reset-left : (c : Controller) → Left (resetAll c)
 unfolding resetAll resetCore
 reset-left c = gone none-left
 
-written-left : (c : Controller) (a v : ℕ) → c .core .service .effort .progress .stage ≡ Sending → Left (written c a v)
-unfolding written slept
+written-left : (c : Controller) (a v : ℕ) → c .core .service .effort .progress .stage ≡ Sending → Left (hostWritten c a v)
+unfolding hostWritten slept
 written-left c a v e =
     picked Left (resets a v) (resetAll c) _ (λ d. reset-left c) (λ d. picked Left (sleeps a v) _ (byteWritten c a v) (λ h. gone none-left) (λ h. on (byte-on c a v e)))
 
@@ -296,7 +296,7 @@ left-write c a v i = go (step-of c (Write a v))
   where
     go : Step c (Write a v) → Left (next c (Write a v))
     go (steps.refusal n h) = subst Left (sym (refused-next c none (Write a v) n h)) (on i)
-    go (steps.wrote h) = subst Left (sym (accepted-next c none (Write a v) 0 (written c a (v % 256)) h)) (written-left c a (v % 256) i)
+    go (steps.wrote h) = subst Left (sym (accepted-next c none (Write a v) 0 (hostWritten c a (v % 256)) h)) (written-left c a (v % 256) i)
 
 left-read : (c : Controller) (a : ℕ) → Between c (Read a)
 left-read c a i = go (step-of c (Read a))

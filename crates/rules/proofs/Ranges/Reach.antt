@@ -2,27 +2,30 @@
 --   fine-fresh, fine-next, fine-after == every reached controller is fine        never-six == so its numbers are in range, and never-refused-six
 --   refused-same, refused-value == a refusal leaves the controller as it is, with zero elsewhere
 use Prim.Native.Nat.{ℕ, _%_, _≤_, _<_}
-use mathlib.Core.Bool.{true, false}
+use mathlib.Core.Bool.{Bool, true, false, not, false≢true}
 use mathlib.Core.List.{List, [], _∷_}
-use mathlib.Core.Path.{_≡_, refl}
+use mathlib.Core.Path.{_≡_, refl, sym, ap, subst, _∙_}
 use native.Mathlib.Omega.{arith}
-use lib.Dec.{eqb, ltb}
+use borrow.Author.Tests.{eq-eqb}
+use lib.Dec.{eqb}
 use lib.ListN.{getD, set}
 use Rattle.line.specs.Bits.{Below}
 use Rattle.line.proofs.Laws.{picked}
 use Rattle.rules.specs.Definitions.Setters.{withActivity, withReport, withService}
 use Rattle.rules.specs.Definitions.Longest.{longestOf}
-use Rattle.rules.specs.Definitions.Registers.{command, readOnly, reserved, fixedBits, interruptReset, transmitControl, autonomous, writeOnly, asksIdle, asksActivation, asksRearbitration, resetReport}
+use Rattle.rules.specs.Definitions.Registers.{both, command, interruptReset, transmitControl, autonomous, writeOnly, asksIdle, asksActivation, asksRearbitration, resetReport}
 use Rattle.rules.specs.Definitions.Reception.{unsettled}
 use Rattle.rules.specs.Definitions.Service.{roleOf, stopped, choose, aborts, abortAsked, rearAsked}
 use Rattle.rules.specs.Definitions.State.{inRange, isActive, isAsleep, serving, inMode, resetCore, idled, idleDue, slept, idleAsked, activated}
 use Rattle.rules.specs.Definitions.Slots.{heardAs, heard, delivers, serviceJudged, ending, reportAfter, memoryJudged, coreJudged, chooses, choiceMade, startMade, followsOn, sampleOf, judgedSlot, sampledSlot, activeSlot}
-use Rattle.rules.specs.Definitions.Host.{resetAll, resets, sleeps, modeCommanded, rearCommanded, keptByte, flagsCleared, coreWritten, serviceAsked, stoppedCore, byteWritten, written, byteRead, accessRefused, writeRefused, readRefused}
-use Rattle.rules.specs.Definitions.Run.{fresh, refuse, accept, pinReset, hostWrite, hostRead, answered, restedSlot, slot, step, next, after}
-use Rattle.rules.proofs.Ranges.Limits.{RetriesLimits, ReportLimits, Fine, limits-in-range}
+use Rattle.rules.specs.Definitions.Host.{resetAll, resets, sleeps, modeCommanded, rearCommanded, keptByte, flagsCleared, coreWritten, serviceAsked, stoppedCore, byteWritten, hostWritten, byteRead, accessRefusals, writeRefusals, readRefusals}
+use Rattle.rules.specs.Definitions.Answers.{number}
+use Rattle.rules.specs.Definitions.Run.{fresh, refuse, accept, unlessRefused, pinReset, hostWrite, hostRead, answered, restedSlot, slot, step, next, after}
+use Rattle.rules.proofs.Ranges.Limits.{RetriesLimits, ReportLimits, Fine, both-true, limits-in-range}
 use Rattle.rules.proofs.Ranges.Bytes.{set-below, zeros-below, reset-below}
 use Rattle.rules.proofs.Ranges.Reception.{Received, quiet-received, judged-received, line-small, Heard, frame-heard, quiet-heard, heard-report, delivered-report, delivered-below}
 use Rattle.rules.proofs.Ranges.Service.{Served, resting-served, Judged, judged, own-heard, Spent, served-spent, judged-spent, stopped-ends, ending-ends, settled-served, ended-below, sending-report, judged-report, ended-report, choose-served, started-served, abort-served, rear-served}
+use Rattle.rules.proofs.Steps.{Call, refused, taken, call-of}
 use Rattle.rules.specs.declared.Report.{Report}
 use Rattle.rules.specs.declared.Service.{Service}
 use Rattle.rules.specs.declared.Hearing.{Hearing}
@@ -34,19 +37,21 @@ use Rattle.rules.specs.declared.Activity.{Activity}
 use Rattle.rules.specs.declared.Core.{Core}
 use Rattle.rules.specs.declared.Controller.{Controller}
 use Rattle.rules.specs.declared.Answer.{Answer}
+use Rattle.rules.specs.declared.Refusal.{Refusal}
+use Rattle.rules.specs.declared.Refusal.the-variants.{Range}
 use Rattle.rules.specs.declared.Event.{Event}
 use Rattle.rules.specs.declared.Event.the-variants.{Reset, Write, Read, Slot}
 
--- ---- a fine controller, part by part
+-- ---- what a fine controller's state keeps, part by part
 
-pub record Kept (k : Core) : Type 0 where
+pub record FineCore (k : Core) : Type 0 where
   pub report : ReportLimits (k .report)
   pub line : k .line .count ≤ 12
   pub reception : Received (k .reception)
   pub service : Served (k .service)
 
-pub kept-fine : (c : Controller) → Below 256 (c .memory) → Kept (c .core) → Fine c
-kept-fine c b f =
+pub core-fine : (c : Controller) → Below 256 (c .memory) → FineCore (c .core) → Fine c
+core-fine c b f =
     record {
       memory = b;
       received = f .reception .bytes;
@@ -54,8 +59,8 @@ kept-fine c b f =
       retries = f .service .retries;
     }
 
-pub fine-kept : (c : Controller) → Fine c → Kept (c .core)
-fine-kept c f =
+pub fine-core : (c : Controller) → Fine c → FineCore (c .core)
+fine-core c f =
     let l = f .limits in
     record {
       report = l .report;
@@ -76,7 +81,7 @@ is-heard : (k : Core) {w : Verdict} (v : ℕ) → Judged (k .service .effort) w 
 unfolding heard
 is-heard k v j = as-heard (roleOf (k .service .effort .progress) (k .reception .place)) k v j
 
-after-report : (k : Core) (w : Verdict) {h : Hearing} → Kept k → Judged (k .service .effort) w → Heard h → ReportLimits (reportAfter k w h)
+after-report : (k : Core) (w : Verdict) {h : Hearing} → FineCore k → Judged (k .service .effort) w → Heard h → ReportLimits (reportAfter k w h)
 unfolding reportAfter
 after-report k w {h} f j i =
     let s : Spent (serviceJudged w (k .service)) = judged-spent (k .service) j (f .service) in
@@ -85,13 +90,13 @@ after-report k w {h} f j i =
     (delivered-report (delivers w h (k .reception)) _ (k .reception) (heard-report i (k .report) (f .report)) (f .reception)) s)
     s
 
-judged-below : {m : List ℕ} → Below 256 m → (k : Core) (w : Verdict) (h : Hearing) → Kept k → Below 256 (memoryJudged m k w h)
+judged-below : {m : List ℕ} → Below 256 m → (k : Core) (w : Verdict) (h : Hearing) → FineCore k → Below 256 (memoryJudged m k w h)
 unfolding memoryJudged
 judged-below b k w h f =
     ended-below (ending k w) (delivered-below (delivers w h (k .reception)) b (k .reception) (f .reception)) (k .service .channel)
 
-judged-kept : {m : List ℕ} → Below 256 m → (k : Core) (w : Verdict) {h : Hearing} (v : ℕ) → Kept k → Judged (k .service .effort) w → Heard h
-    → Kept (coreJudged m k w h v)
+judged-kept : {m : List ℕ} → Below 256 m → (k : Core) (w : Verdict) {h : Hearing} (v : ℕ) → FineCore k → Judged (k .service .effort) w → Heard h
+    → FineCore (coreJudged m k w h v)
 unfolding coreJudged ending
 judged-kept b k w {h} v f j i =
     let s : Spent (serviceJudged w (k .service)) = judged-spent (k .service) j (f .service) in
@@ -104,39 +109,39 @@ judged-kept b k w {h} v f j i =
 
 -- ---- what follows: idle, choice, start
 
-report-kept : (k : Core) (x : Report) → Kept k → ReportLimits x → Kept (withReport k x)
+report-kept : (k : Core) (x : Report) → FineCore k → ReportLimits x → FineCore (withReport k x)
 report-kept k x f l = record { report = l; line = f .line; reception = f .reception; service = f .service }
 
-service-kept : (k : Core) (s : Service) → Kept k → Served s → Kept (withService k s)
+service-kept : (k : Core) (s : Service) → FineCore k → Served s → FineCore (withService k s)
 service-kept k s f g = record { report = f .report; line = f .line; reception = f .reception; service = g }
 
-activity-kept : (k : Core) (a : Activity) → Kept k → Kept (withActivity k a)
+activity-kept : (k : Core) (a : Activity) → FineCore k → FineCore (withActivity k a)
 activity-kept k a f = record { report = f .report; line = f .line; reception = f .reception; service = f .service }
 
-idled-kept : (k : Core) → Kept k → Kept (idled k)
+idled-kept : (k : Core) → FineCore k → FineCore (idled k)
 unfolding idled
 idled-kept k f = record { report = f .report; line = f .line; reception = quiet-received; service = f .service }
 
-idle-kept : (k : Core) → Kept k → Kept (idleDue k)
+idle-kept : (k : Core) → FineCore k → FineCore (idleDue k)
 unfolding idleDue
 idle-kept k f =
-    picked Kept (k .activity .waiting) _ k (λ e. picked Kept (serving (k .service)) k (idled k) (λ d. f) (λ d. idled-kept k f)) (λ e. f)
+    picked FineCore (k .activity .waiting) _ k (λ e. picked FineCore (serving (k .service)) k (idled k) (λ d. f) (λ d. idled-kept k f)) (λ e. f)
 
-choice-kept : {m : List ℕ} → Below 256 m → (k : Core) → Kept k → Kept (choiceMade m k)
+choice-kept : {m : List ℕ} → Below 256 m → (k : Core) → FineCore k → FineCore (choiceMade m k)
 unfolding choiceMade
 choice-kept {m} b k f =
     let s : Served (choose m (longestOf k)) = choose-served b (longestOf k) in
-    picked Kept (chooses k) _ k
-    (λ e. picked Kept (serving (choose m (longestOf k))) _ k
+    picked FineCore (chooses k) _ k
+    (λ e. picked FineCore (serving (choose m (longestOf k))) _ k
     (λ d. service-kept _ (choose m (longestOf k)) (report-kept k _ f (sending-report (k .report) (choose m (longestOf k)) (f .report) (served-spent _ s))) s)
     (λ d. f))
     (λ e. f)
 
-start-kept : (m : List ℕ) (k : Core) → Kept k → Kept (startMade m k)
+start-kept : (m : List ℕ) (k : Core) → FineCore k → FineCore (startMade m k)
 unfolding startMade
 start-kept m k f = service-kept k _ f (started-served (k .service) (autonomous (getD m transmitControl 0)) (k .line) (k .reception) (f .service))
 
-follows-kept : {m : List ℕ} → Below 256 m → (k : Core) → Kept k → Kept (followsOn m k)
+follows-kept : {m : List ℕ} → Below 256 m → (k : Core) → FineCore k → FineCore (followsOn m k)
 unfolding followsOn
 follows-kept {m} b k f = start-kept m _ (choice-kept b _ (idle-kept k f))
 
@@ -145,9 +150,9 @@ follows-kept {m} b k f = start-kept m _ (choice-kept b _ (idle-kept k f))
 judged-fine : (c : Controller) (w : Verdict) {h : Hearing} (v : ℕ) → Fine c → Judged (c .core .service .effort) w → Heard h → Fine (judgedSlot c w h v)
 unfolding judgedSlot
 judged-fine c w {h} v f j i =
-    let k = fine-kept c f in
+    let k = fine-core c f in
     let b = judged-below (f .memory) (c .core) w h k in
-    kept-fine _ b (follows-kept b _ (judged-kept b (c .core) w v k j i))
+    core-fine _ b (follows-kept b _ (judged-kept b (c .core) w v k j i))
 
 sampled-fine : (c : Controller) (v : ℕ) → Fine c → Fine (sampledSlot c v)
 unfolding sampledSlot
@@ -159,7 +164,7 @@ active-fine c levels f = sampled-fine c (sampleOf c levels) f
 
 -- ---- reset
 
-reset-kept : Kept resetCore
+reset-kept : FineCore resetCore
 unfolding resetCore resetReport unsettled
 reset-kept =
     let r : RetriesLimits (record { count = 0; channel = 0 }) = record { count = omega arith; channel = omega arith } in
@@ -167,35 +172,35 @@ reset-kept =
 
 reset-fine : (c : Controller) → Below 256 (c .memory) → Fine (resetAll c)
 unfolding resetAll
-reset-fine c b = kept-fine _ (reset-below b) reset-kept
+reset-fine c b = core-fine _ (reset-below b) reset-kept
 
 -- ---- a write
 
-activated-kept : (k : Core) → Kept k → Kept (activated k)
+activated-kept : (k : Core) → FineCore k → FineCore (activated k)
 unfolding activated unsettled
 activated-kept k f =
-    picked Kept (isActive (k .activity .mode)) (withActivity k (inMode Active false)) _ (λ e. activity-kept k (inMode Active false) f)
+    picked FineCore (isActive (k .activity .mode)) (withActivity k (inMode Active false)) _ (λ e. activity-kept k (inMode Active false) f)
     (λ e. record { report = f .report; line = omega arith; reception = f .reception; service = f .service })
 
-idle-asked-kept : (k : Core) → Kept k → Kept (idleAsked k)
+idle-asked-kept : (k : Core) → FineCore k → FineCore (idleAsked k)
 unfolding idleAsked
-idle-asked-kept k f = picked Kept (isActive (k .activity .mode)) (withActivity k (inMode Active true)) k (λ e. activity-kept k (inMode Active true) f) (λ e. f)
+idle-asked-kept k f = picked FineCore (isActive (k .activity .mode)) (withActivity k (inMode Active true)) k (λ e. activity-kept k (inMode Active true) f) (λ e. f)
 
-mode-kept : (k : Core) (v : ℕ) → Kept k → Kept (modeCommanded k v)
+mode-kept : (k : Core) (v : ℕ) → FineCore k → FineCore (modeCommanded k v)
 unfolding modeCommanded
 mode-kept k v f =
-    picked Kept (asksIdle v) (idleAsked k) _ (λ e. idle-asked-kept k f)
-    (λ e. picked Kept (asksActivation v) (activated k) k (λ d. activated-kept k f) (λ d. f))
+    picked FineCore (asksIdle v) (idleAsked k) _ (λ e. idle-asked-kept k f)
+    (λ e. picked FineCore (asksActivation v) (activated k) k (λ d. activated-kept k f) (λ d. f))
 
-cleared-kept : (k : Core) (v : ℕ) → Kept k → Kept (flagsCleared k v)
+cleared-kept : (k : Core) (v : ℕ) → FineCore k → FineCore (flagsCleared k v)
 unfolding flagsCleared
 cleared-kept k v f = let l = f .report in report-kept k _ f (record { sending = l .sending; message = l .message; error = l .error })
 
-written-kept : (k : Core) (address v : ℕ) → Kept k → Kept (coreWritten k address v)
+written-kept : (k : Core) (address v : ℕ) → FineCore k → FineCore (coreWritten k address v)
 unfolding coreWritten
 written-kept k address v f =
-    picked Kept (eqb address command) (modeCommanded k v) _ (λ e. mode-kept k v f)
-    (λ e. picked Kept (eqb address interruptReset) (flagsCleared k v) k (λ d. cleared-kept k v f) (λ d. f))
+    picked FineCore (eqb address command) (modeCommanded k v) _ (λ e. mode-kept k v f)
+    (λ e. picked FineCore (eqb address interruptReset) (flagsCleared k v) k (λ d. cleared-kept k v f) (λ d. f))
 
 asked-served : (s : Service) (address v : ℕ) → Served s → Served (serviceAsked s address v)
 unfolding serviceAsked rearCommanded
@@ -204,13 +209,13 @@ asked-served s address v f =
     (λ e. picked Served (asksRearbitration v) (rearAsked s) s (λ d. rear-served s f) (λ d. f))
     (λ e. picked Served (aborts s address v) (abortAsked s) s (λ d. abort-served s f) (λ d. f))
 
-stopped-kept : (k : Core) (s : Service) → Kept k → Served s → Kept (stoppedCore k s)
+stopped-kept : (k : Core) (s : Service) → FineCore k → Served s → FineCore (stoppedCore k s)
 unfolding stoppedCore
 stopped-kept k s f g =
     let p = served-spent s g in
     idle-kept _ (service-kept _ _ (report-kept k _ f (ended-report (stopped s) (k .report) s (f .report) p)) (settled-served s p (stopped-ends s p)))
 
-slept-kept : (k : Core) → Kept k → Kept (slept k)
+slept-kept : (k : Core) → FineCore k → FineCore (slept k)
 unfolding slept
 slept-kept k f = record { report = f .report; line = f .line; reception = quiet-received; service = resting-served }
 
@@ -221,39 +226,33 @@ kept-below {m} b address v h = picked (Below 256) (writeOnly address) m (set m (
 byte-fine : (c : Controller) (address v : ℕ) → v < 256 → Fine c → Fine (byteWritten c address v)
 unfolding byteWritten
 byte-fine c address v h f =
-    let k = fine-kept c f in
-    kept-fine _ (ended-below _ (kept-below (f .memory) address v h) (c .core .service .channel))
+    let k = fine-core c f in
+    core-fine _ (ended-below _ (kept-below (f .memory) address v h) (c .core .service .channel))
     (stopped-kept _ _ (written-kept (c .core) address v k) (asked-served (c .core .service) address v (k .service)))
 
-written-fine : (c : Controller) (address v : ℕ) → v < 256 → Fine c → Fine (written c address v)
-unfolding written
+written-fine : (c : Controller) (address v : ℕ) → v < 256 → Fine c → Fine (hostWritten c address v)
+unfolding hostWritten
 written-fine c address v h f =
     picked Fine (resets address v) (resetAll c) _ (λ e. reset-fine c (f .memory))
-    (λ e. picked Fine (sleeps address v) _ (byteWritten c address v) (λ d. kept-fine _ (f .memory) (slept-kept (c .core) (fine-kept c f))) (λ d. byte-fine c address v h f))
+    (λ e. picked Fine (sleeps address v) _ (byteWritten c address v) (λ d. core-fine _ (f .memory) (slept-kept (c .core) (fine-core c f))) (λ d. byte-fine c address v h f))
 
 -- ---- every event
 
-abbrev FineNext : Answer → Type 0
-FineNext a = Fine (a .next)
+fine-called : (c : Controller) (a x : Answer) → Fine c → Fine (a .next) → Call c a x → Fine (x .next)
+unfolding refuse
+fine-called c a x f g (refused why h) = subst (λ (y : Answer). Fine (y .next)) (sym h) f
+fine-called c a x f g (taken h) = subst (λ (y : Answer). Fine (y .next)) (sym h) g
 
 pub fine-next : (c : Controller) (e : Event) → Fine c → Fine (next c e)
-unfolding next step pinReset hostWrite hostRead slot refuse accept answered restedSlot
-fine-next c Reset f =
-    picked FineNext (inRange (c .core)) (accept 0 (resetAll c)) (refuse c 6) (λ e. reset-fine c (f .memory)) (λ e. f)
+unfolding next step pinReset hostWrite hostRead slot accept answered restedSlot
+fine-next c Reset f = fine-called c _ _ f (reset-fine c (f .memory)) (call-of c _ (accept 0 (resetAll c)))
 fine-next c (Write address value) f =
-    picked FineNext (eqb (accessRefused (c .core) address) 0) _ (refuse c (accessRefused (c .core) address))
-    (λ e. picked FineNext (eqb (writeRefused address value) 0) (accept 0 (written c address (value % 256))) (refuse c (writeRefused address value))
-    (λ d. written-fine c address (value % 256) (omega arith) f) (λ d. f))
-    (λ e. f)
-fine-next c (Read address) f =
-    picked FineNext (eqb (accessRefused (c .core) address) 0) _ (refuse c (accessRefused (c .core) address))
-    (λ e. picked FineNext (eqb (readRefused address) 0) (accept (byteRead c address) c) (refuse c (readRefused address)) (λ d. f) (λ d. f))
-    (λ e. f)
+    fine-called c _ _ f (written-fine c address (value % 256) (omega arith) f) (call-of c _ (accept 0 (hostWritten c address (value % 256))))
+fine-next c (Read address) f = fine-called c _ _ f f (call-of c _ (accept (byteRead c address) c))
 fine-next c (Slot levels) f =
-    picked FineNext (inRange (c .core)) _ (refuse c 6)
-    (λ e. picked FineNext (ltb 7 levels) (refuse c 5) _ (λ d. f)
-    (λ d. picked FineNext (isActive (c .core .activity .mode)) (answered (activeSlot c levels)) (restedSlot c) (λ a. active-fine c levels f) (λ a. f)))
-    (λ e. f)
+    fine-called c _ _ f
+    (picked (λ (y : Answer). Fine (y .next)) (isActive (c .core .activity .mode)) (answered (activeSlot c levels)) (restedSlot c) (λ a. active-fine c levels f) (λ a. f))
+    (call-of c _ _)
 
 pub fine-fresh : Fine fresh
 unfolding fresh
@@ -275,48 +274,36 @@ never-six es = limits-in-range (after fresh es .core) (fine-after es .limits)
 abbrev Other : ℕ → Type 0
 Other n = n ≡ 6 → ⊥
 
-access-other : (k : Core) (address : ℕ) → inRange k ≡ true → Other (accessRefused k address)
-unfolding accessRefused
-access-other k address h =
-    rw h
-    (picked Other (isAsleep (k .activity .mode)) 7 _ (λ e d. omega arith)
-    (λ e. picked Other (ltb 255 address) 1 0 (λ i d. omega arith) (λ i d. omega arith)))
+-- no refusal of a list has number 6
+abbrev sixless : List (Bool × Refusal) → Bool
+sixless [] = true
+sixless (r ∷ rs) = both (not (eqb (number (r .1)) 6)) (sixless rs)
 
-write-other : (address value : ℕ) → Other (writeRefused address value)
-unfolding writeRefused
-write-other address value =
-    picked Other (ltb 255 value) 2 _ (λ e d. omega arith)
-    (λ e. picked Other (readOnly address) 3 _ (λ i d. omega arith)
-    (λ i. picked Other (reserved address) 3 _ (λ j d. omega arith)
-    (λ j. picked Other (fixedBits address (value % 256)) 0 8 (λ k d. omega arith) (λ k d. omega arith))))
+other : (why : Refusal) → not (eqb (number why) 6) ≡ true → Other (number why)
+other why s d = false≢true (sym (ap not (eq-eqb (number why) 6 d)) ∙ s)
 
-read-other : (address : ℕ) → Other (readRefused address)
-unfolding readRefused
-read-other address =
-    picked Other (writeOnly address) 4 _ (λ e d. omega arith)
-    (λ e. picked Other (reserved address) 4 0 (λ i d. omega arith) (λ i d. omega arith))
+others : (c : Controller) (rs : List (Bool × Refusal)) (a : Answer) → sixless rs ≡ true → Other (a .refused) → Other (unlessRefused c rs a .refused)
+unfolding unlessRefused refuse
+others c [] a s h = h
+others c (r ∷ rs) a s h =
+    let b = both-true (not (eqb (number (r .1)) 6)) (sixless rs) s in
+    picked (λ (x : Answer). Other (x .refused)) (r .0) (refuse c (r .1)) (unlessRefused c rs a) (λ e. other (r .1) (b .0)) (λ e. others c rs a (b .1) h)
 
-abbrev OtherAnswer : Answer → Type 0
-OtherAnswer a = Other (a .refused)
+-- the first refusal of every call is 6, where a number is not in range
+others-in-range : (c : Controller) (rs : List (Bool × Refusal)) (a : Answer) → inRange (c .core) ≡ true → sixless rs ≡ true → Other (a .refused)
+    → Other (unlessRefused c ((not (inRange (c .core)), Range) ∷ rs) a .refused)
+unfolding unlessRefused
+others-in-range c rs a i s h = rw i (others c rs a s h)
 
 -- a controller in range is never refused with 6
 pub in-range-other : (c : Controller) (e : Event) → inRange (c .core) ≡ true → step c e .refused ≡ 6 → ⊥
-unfolding step pinReset hostWrite hostRead slot answered restedSlot refuse accept
-in-range-other c Reset h = rw h (λ d. omega arith)
-in-range-other c (Write address value) h =
-    picked OtherAnswer (eqb (accessRefused (c .core) address) 0) _ (refuse c (accessRefused (c .core) address))
-    (λ e. picked OtherAnswer (eqb (writeRefused address value) 0) (accept 0 (written c address (value % 256))) (refuse c (writeRefused address value))
-    (λ i d. omega arith) (λ i. write-other address value))
-    (λ e. access-other (c .core) address h)
-in-range-other c (Read address) h =
-    picked OtherAnswer (eqb (accessRefused (c .core) address) 0) _ (refuse c (accessRefused (c .core) address))
-    (λ e. picked OtherAnswer (eqb (readRefused address) 0) (accept (byteRead c address) c) (refuse c (readRefused address))
-    (λ i d. omega arith) (λ i. read-other address))
-    (λ e. access-other (c .core) address h)
+unfolding step pinReset hostWrite hostRead slot answered restedSlot accept accessRefusals writeRefusals readRefusals number
+in-range-other c Reset h = others-in-range c _ _ h refl (λ d. omega arith)
+in-range-other c (Write address value) h = others-in-range c _ _ h refl (λ d. omega arith)
+in-range-other c (Read address) h = others-in-range c _ _ h refl (λ d. omega arith)
 in-range-other c (Slot levels) h =
-    rw h
-    (picked OtherAnswer (ltb 7 levels) (refuse c 5) _ (λ e d. omega arith)
-    (λ e. picked OtherAnswer (isActive (c .core .activity .mode)) (answered (activeSlot c levels)) (restedSlot c) (λ i d. omega arith) (λ i d. omega arith)))
+    others-in-range c _ _ h refl
+    (picked (λ (x : Answer). Other (x .refused)) (isActive (c .core .activity .mode)) (answered (activeSlot c levels)) (restedSlot c) (λ i d. omega arith) (λ i d. omega arith))
 
 pub never-refused-six : (es : List Event) (e : Event) → step (after fresh es) e .refused ≡ 6 → ⊥
 never-refused-six es e = in-range-other (after fresh es) e (never-six es)
@@ -328,36 +315,20 @@ pub record Unchanged (c : Controller) (a : Answer) : Type 0 where
   pub value : a .value ≡ 0
   pub next : a .next ≡ c
 
-abbrev Refusal : Controller → Answer → Type 0
-Refusal c a = (a .refused ≡ 0 → ⊥) → Unchanged c a
-
-refuse-unchanged : (c : Controller) (n : ℕ) → Refusal c (refuse c n)
+unchanged-called : (c : Controller) (a x : Answer) → a .refused ≡ 0 → Call c a x → (x .refused ≡ 0 → ⊥) → Unchanged c x
 unfolding refuse
-refuse-unchanged c n h = record { value = refl; next = refl }
-
-accept-refused : (c d : Controller) (v : ℕ) → Refusal c (accept v d)
-unfolding accept
-accept-refused c d v h = absurd (h refl)
+unchanged-called c a x z (refused why h) n = record { value = ap (λ (y : Answer). y .value) h; next = ap (λ (y : Answer). y .next) h }
+unchanged-called c a x z (taken h) n = absurd (n (ap (λ (y : Answer). y .refused) h ∙ z))
 
 pub unchanged : (c : Controller) (e : Event) → (step c e .refused ≡ 0 → ⊥) → Unchanged c (step c e)
-unfolding step pinReset hostWrite hostRead slot answered restedSlot
-unchanged c Reset =
-    picked (Refusal c) (inRange (c .core)) (accept 0 (resetAll c)) (refuse c 6) (λ e. accept-refused c _ 0) (λ e. refuse-unchanged c 6)
-unchanged c (Write address value) =
-    picked (Refusal c) (eqb (accessRefused (c .core) address) 0) _ (refuse c (accessRefused (c .core) address))
-    (λ e. picked (Refusal c) (eqb (writeRefused address value) 0) (accept 0 (written c address (value % 256))) (refuse c (writeRefused address value))
-    (λ d. accept-refused c _ 0) (λ d. refuse-unchanged c _))
-    (λ e. refuse-unchanged c _)
-unchanged c (Read address) =
-    picked (Refusal c) (eqb (accessRefused (c .core) address) 0) _ (refuse c (accessRefused (c .core) address))
-    (λ e. picked (Refusal c) (eqb (readRefused address) 0) (accept (byteRead c address) c) (refuse c (readRefused address))
-    (λ d. accept-refused c c _) (λ d. refuse-unchanged c _))
-    (λ e. refuse-unchanged c _)
+unfolding step pinReset hostWrite hostRead slot answered restedSlot accept
+unchanged c Reset = unchanged-called c _ _ refl (call-of c _ _)
+unchanged c (Write address value) = unchanged-called c _ _ refl (call-of c _ _)
+unchanged c (Read address) = unchanged-called c _ _ refl (call-of c _ _)
 unchanged c (Slot levels) =
-    picked (Refusal c) (inRange (c .core)) _ (refuse c 6)
-    (λ e. picked (Refusal c) (ltb 7 levels) (refuse c 5) _ (λ d. refuse-unchanged c 5)
-    (λ d. picked (Refusal c) (isActive (c .core .activity .mode)) (answered (activeSlot c levels)) (restedSlot c) (λ a. accept-refused c _ _) (λ a. accept-refused c c _)))
-    (λ e. refuse-unchanged c 6)
+    unchanged-called c _ _
+    (picked (λ (y : Answer). y .refused ≡ 0) (isActive (c .core .activity .mode)) (answered (activeSlot c levels)) (restedSlot c) (λ a. refl) (λ a. refl))
+    (call-of c _ _)
 
 pub refused-same : (c : Controller) (e : Event) → (step c e .refused ≡ 0 → ⊥) → step c e .next ≡ c
 refused-same c e h = unchanged c e h .next

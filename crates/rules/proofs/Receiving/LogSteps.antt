@@ -21,7 +21,7 @@ use Rattle.rules.specs.Definitions.Attempt.{atStage, betweenAttempts, is
 use Rattle.rules.specs.Definitions.Service.{resting, stopped, settled, reportSending, reportEnded, chosen, choiceOf, choose, opened, started, abortAsked, rearAsked, aborts}
 use Rattle.rules.specs.Definitions.State.{isActive, inMode, serving, resetCore, idled, idleDue, slept, idleAsked, activated}
 use Rattle.rules.specs.Definitions.Slots.{heard, ending, memoryJudged, coreJudged, chooses, choiceMade, startMade, followsOn, sampleOf, judgedSlot, sampledSlot, activeSlot}
-use Rattle.rules.specs.Definitions.Host.{resetAll, resets, sleeps, modeCommanded, rearCommanded, flagsCleared, coreWritten, serviceAsked, stoppedCore, byteWritten, written}
+use Rattle.rules.specs.Definitions.Host.{resetAll, resets, sleeps, modeCommanded, rearCommanded, flagsCleared, coreWritten, serviceAsked, stoppedCore, byteWritten, hostWritten}
 use Rattle.rules.specs.Definitions.Run.{accept, answered, restedSlot, step, next}
 use Rattle.rules.specs.Statements.Tally.{Stand, away, between, opening, inside, Tally, isAway}
 use Rattle.rules.specs.Statements.Sending.{accepted}
@@ -266,8 +266,8 @@ slept-stands : (l : Log) (k : Core) → StandsIn l (slept k)
 unfolding slept
 slept-stands l k = apart-stands l
 
-written-stands : (l : Log) (c : Controller) (a v : ℕ) → StandsIn l (c .core) → StandsIn l (written c a v .core)
-unfolding written
+written-stands : (l : Log) (c : Controller) (a v : ℕ) → StandsIn l (c .core) → StandsIn l (hostWritten c a v .core)
+unfolding hostWritten
 written-stands l c a v i =
     picked P (resets a v) (resetAll c) _ (λ e. unfold resetAll resetCore in apart-stands l)
     (λ e. picked P (sleeps a v) _ (byteWritten c a v) (λ d. slept-stands l (c .core)) (λ d. byte-stands l c a v i))
@@ -361,7 +361,7 @@ module _ (c : Controller) (t : Tally) (l : Log) (i : Logs c l) (j : Joined c t) 
   next-logs Reset (reset h) =
       plain-next c l Reset (resetAll c) (accepted-next c t Reset 0 (resetAll c) h) (unfold resetAll resetCore in apart-stands l) (is-accepted c l Reset 0 (resetAll c) h) (unfold logIn in refl)
   next-logs (Write a v) (wrote h) =
-      plain-next c l (Write a v) (written c a (v % 256)) (accepted-next c t (Write a v) 0 (written c a (v % 256)) h) (written-stands l c a (v % 256) (i .stands)) (is-accepted c l (Write a v) 0 (written c a (v % 256)) h) (unfold logIn in refl)
+      plain-next c l (Write a v) (hostWritten c a (v % 256)) (accepted-next c t (Write a v) 0 (hostWritten c a (v % 256)) h) (written-stands l c a (v % 256) (i .stands)) (is-accepted c l (Write a v) 0 (hostWritten c a (v % 256)) h) (unfold logIn in refl)
   next-logs (Read a) (gave value h) = plain-next c l (Read a) c (accepted-next c t (Read a) value c h) (i .stands) (is-accepted c l (Read a) value c h) (unfold logIn in refl)
   next-logs (Slot levels) (went a h) = slot-logs levels a h
   next-logs (Slot levels) (rested a h) =

@@ -16,7 +16,7 @@ use Rattle.rules.specs.Definitions.Service.{roleOf, resting, stopped, en
 use Rattle.rules.specs.Definitions.Longest.{longestOf}
 use Rattle.rules.specs.Definitions.State.{isActive, resetCore, slept}
 use Rattle.rules.specs.Definitions.Slots.{heard, serviceJudged, ending, memoryJudged, coreJudged, drivesAs, drives, sampleOf, judgedSlot, sampledSlot, activeSlot}
-use Rattle.rules.specs.Definitions.Host.{resetAll, resets, sleeps, coreWritten, serviceAsked, byteWritten, written}
+use Rattle.rules.specs.Definitions.Host.{resetAll, resets, sleeps, coreWritten, serviceAsked, byteWritten, hostWritten}
 use Rattle.rules.specs.Definitions.Run.{fresh, answered, restedSlot, step, next}
 use Rattle.rules.proofs.Ranges.Limits.{Fine}
 use Rattle.rules.proofs.Sending.Join.{made, serviceIn, serviceOf, settled-is, slot-settled, asked-is, drivenIn, isBetweenStand}
@@ -104,8 +104,8 @@ module _ (c : Controller) (t : Tally) (j : Joined c t) (a v : ℕ) where
       let x : isExhausted (stopped (serviceAsked (c .core .service) a v)) ≡ false = ap (λ (s : Service). isExhausted (stopped s)) asked-same ∙ never-exhausted (askedT t a v) (asked-good t a v (j .good)) in
       stopped-te (coreWritten (c .core) a v) (serviceAsked (c .core .service) a v) ∙ rw x (written-te (c .core) a v e)
 
-  pub wrote-joined : Joined (written c a v) (pick (resets a v) none (pick (sleeps a v) none (endedT (askedT t a v))))
-  unfolding written
+  pub wrote-joined : Joined (hostWritten c a v) (pick (resets a v) none (pick (sleeps a v) none (endedT (askedT t a v))))
+  unfolding hostWritten
   wrote-joined = go (resets a v) (sleeps a v)
     where
       go : (x y : Bool) → Joined (pick x (resetAll c) (pick y (record { memory = c .memory; core = slept (c .core) }) (byteWritten c a v))) (pick x none (pick y none (endedT (askedT t a v))))
@@ -113,8 +113,8 @@ module _ (c : Controller) (t : Tally) (j : Joined c t) (a v : ℕ) where
       go false true = record { service = unfold slept serviceOf serviceIn none in refl; good = good-none }
       go false false = record { service = byte-joined; good = ended-good (askedT t a v) (asked-good t a v (j .good)) }
 
-  pub wrote-te : te c ≡ false → te (written c a v) ≡ false
-  unfolding written
+  pub wrote-te : te c ≡ false → te (hostWritten c a v) ≡ false
+  unfolding hostWritten
   wrote-te e = go (resets a v) (sleeps a v)
     where
       go : (x y : Bool) → te (pick x (resetAll c) (pick y (record { memory = c .memory; core = slept (c .core) }) (byteWritten c a v))) ≡ false
@@ -206,7 +206,7 @@ module _ (c : Controller) (t : Tally) (j : Joined c t) (f : Fine c) where
   claim Reset (reset h) =
       unchanged c t Reset j (accepted-seen c t Reset 0 (resetAll c) h ∙ (unfold seenIn in refl)) (λ x. ap te (accepted-next c t Reset 0 (resetAll c) h) ∙ (unfold resetAll resetCore resetReport in refl)) (λ x. tt)
   claim (Write a v) (wrote h) =
-      unchanged c t (Write a v) j (accepted-seen c t (Write a v) 0 (written c a (v % 256)) h ∙ (unfold seenIn in refl)) (λ x. ap te (accepted-next c t (Write a v) 0 (written c a (v % 256)) h) ∙ wrote-te c t j a (v % 256) x) (λ x. tt)
+      unchanged c t (Write a v) j (accepted-seen c t (Write a v) 0 (hostWritten c a (v % 256)) h ∙ (unfold seenIn in refl)) (λ x. ap te (accepted-next c t (Write a v) 0 (hostWritten c a (v % 256)) h) ∙ wrote-te c t j a (v % 256) x) (λ x. tt)
   claim (Read a) (gave value h) =
       unchanged c t (Read a) j (accepted-seen c t (Read a) value c h ∙ (unfold seenIn in refl)) (λ x. ap te (accepted-next c t (Read a) value c h) ∙ x) (λ x. tt)
   claim (Slot l) (went a h) = slot-claim l a h
@@ -232,7 +232,7 @@ module _ (c : Controller) (t : Tally) (j : Joined c t) (f : Fine c) where
       moved (accepted-next c t Reset 0 (resetAll c) h) (accepted-tally c t Reset 0 (resetAll c) h)
       (unfold followIn in record { service = unfold resetAll resetCore serviceOf serviceIn none in refl; good = good-none })
   joined-next (Write a v) (wrote h) =
-      moved (accepted-next c t (Write a v) 0 (written c a (v % 256)) h) (accepted-tally c t (Write a v) 0 (written c a (v % 256)) h)
+      moved (accepted-next c t (Write a v) 0 (hostWritten c a (v % 256)) h) (accepted-tally c t (Write a v) 0 (hostWritten c a (v % 256)) h)
       (unfold followIn in wrote-joined c t j a (v % 256))
   joined-next (Read a) (gave value h) = moved (accepted-next c t (Read a) value c h) (accepted-tally c t (Read a) value c h) (unfold followIn in j)
   joined-next (Slot l) (went a h) = went-joined l a h

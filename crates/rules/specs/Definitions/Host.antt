@@ -1,9 +1,9 @@
 -- Host access: commands, registers, refusals (01, Memory map; Numbers refused).
---   resetAll == reset by pin or GRES        written, byteRead == an accepted write and read
---   writeRefused, readRefused == the number of a refusal, 0 where there is none
+--   resetAll == reset by pin or GRES        hostWritten, byteRead == an accepted write and read
+--   accessRefusals, writeRefusals, readRefusals == the refusals in their order, each with its test
 use Prim.Native.Nat.{ℕ, _%_}
-use mathlib.Core.Bool.{Bool}
-use mathlib.Core.List.{List}
+use mathlib.Core.Bool.{Bool, not}
+use mathlib.Core.List.{List, [], _∷_}
 use lib.Dec.{eqb, ltb}
 use lib.ListN.{getD, set}
 use Rattle.line.specs.Bits.{pick}
@@ -16,6 +16,8 @@ use Rattle.rules.specs.Definitions.State.{inRange, isAsleep, isIdle, ser
 use Rattle.rules.specs.declared.Service.{Service}
 use Rattle.rules.specs.declared.Core.{Core}
 use Rattle.rules.specs.declared.Controller.{Controller}
+use Rattle.rules.specs.declared.Refusal.{Refusal}
+use Rattle.rules.specs.declared.Refusal.the-variants.{Address, Value, Unwritable, Unreadable, Range, Asleep, FixedBits}
 
 -- "Reset, by pin or GRES, leaves both and resets the rest to idle mode."
 unfoldable pub resetAll : Controller → Controller
@@ -37,7 +39,7 @@ rearCommanded s v = pick (asksRearbitration v) (rearAsked s) s
 
 -- ---- an accepted write
 
--- a byte is kept as written; commands and interrupt resets act and are not kept
+-- a byte is kept as written; commands and interrupt resets act and are not kept. `% 256` changes no address that is accepted: it keeps the place inside the map
 unfoldable pub keptByte : List ℕ → ℕ → ℕ → List ℕ
 keptByte m address v = pick (writeOnly address) m (set m (address % 256) v)
 
@@ -63,8 +65,8 @@ byteWritten c address v =
       core = stoppedCore (coreWritten (c .core) address v) (serviceAsked (c .core .service) address v);
     }
 
-unfoldable pub written : Controller → ℕ → ℕ → Controller
-written c address v =
+unfoldable pub hostWritten : Controller → ℕ → ℕ → Controller
+hostWritten c address v =
     pick (resets address v) (resetAll c)
     (pick (sleeps address v) (record { memory = c .memory; core = slept (c .core) }) (byteWritten c address v))
 
@@ -80,21 +82,35 @@ statusRead k address =
     (pick (eqb address lastMessageStatus) (retriesByte (k .report .message))
     (pick (eqb address lastErrorStatus) (k .report .error) (interruptStatus (k .report .flags)))))
 
+-- `% 256` as in keptByte
 unfoldable pub byteRead : Controller → ℕ → ℕ
 byteRead c address = pick (readOnly address) (statusRead (c .core) address) (getD (c .memory) (address % 256) 0)
 
--- ---- refusals: "Order, host access: 6, 7, 1, 2, 3 or 4, 8."
+-- ---- refusals, each with its test, in the order in which they are given: "Order, host access: 6, 7, 1, 2, 3 or 4, 8."
 
-unfoldable pub accessRefused : Core → ℕ → ℕ
-accessRefused k address = pick (inRange k) (pick (isAsleep (k .activity .mode)) 7 (pick (ltb 255 address) 1 0)) 6
+-- 6, 7, 1
+unfoldable pub accessRefusals : Core → ℕ → List (Bool × Refusal)
+accessRefusals k address =
+    (not (inRange k), Range)
+    ∷ (isAsleep (k .activity .mode), Asleep)
+    ∷ (ltb 255 address, Address)
+    ∷ []
 
-unfoldable pub writeRefused : ℕ → ℕ → ℕ
-writeRefused address value =
-    pick (ltb 255 value) 2
-    (pick (readOnly address) 3 (pick (reserved address) 3 (pick (fixedBits address (value % 256)) 0 8)))
+-- 2, 3, 8. A value above 255 is refused with 2: `% 256` only makes the last test total
+unfoldable pub writeRefusals : ℕ → ℕ → List (Bool × Refusal)
+writeRefusals address value =
+    (ltb 255 value, Value)
+    ∷ (readOnly address, Unwritable)
+    ∷ (reserved address, Unwritable)
+    ∷ (not (fixedBits address (value % 256)), FixedBits)
+    ∷ []
 
-unfoldable pub readRefused : ℕ → ℕ
-readRefused address = pick (writeOnly address) 4 (pick (reserved address) 4 0)
+-- 4
+unfoldable pub readRefusals : ℕ → List (Bool × Refusal)
+readRefusals address =
+    (writeOnly address, Unreadable)
+    ∷ (reserved address, Unreadable)
+    ∷ []
 
 -- "The interrupt line is asserted when status and enable share a one."
 unfoldable pub interruptLine : Controller → Bool

@@ -1,14 +1,19 @@
 -- The step rule and the run (demand 3: "each event gets the controller that the last one left").
 --   fresh == a fresh controller        step == an event's answer        next, after == the controller after an event, after a list of events
+--   unlessRefused == the first refusal that is due, or the answer of an accepted call
 use Prim.Native.Nat.{ℕ, _%_}
-use mathlib.Core.List.{List, [], _∷_}
-use lib.Dec.{eqb, ltb}
+use mathlib.Core.Bool.{Bool, not}
+use mathlib.Core.List.{List, [], _∷_, _++_}
+use lib.Dec.{ltb}
 use lib.ListN.{getD, replicate}
 use Rattle.line.specs.Bits.{pick}
 use Rattle.rules.specs.Definitions.Registers.{lineControl, transmitted}
 use Rattle.rules.specs.Definitions.State.{inRange, isActive, resetCore}
 use Rattle.rules.specs.Definitions.Slots.{drives, activeSlot}
-use Rattle.rules.specs.Definitions.Host.{resetAll, written, byteRead, accessRefused, writeRefused, readRefused}
+use Rattle.rules.specs.Definitions.Host.{resetAll, hostWritten, byteRead, accessRefusals, writeRefusals, readRefusals}
+use Rattle.rules.specs.Definitions.Answers.{number}
+use Rattle.rules.specs.declared.Refusal.{Refusal}
+use Rattle.rules.specs.declared.Refusal.the-variants.{Levels, Range}
 use Rattle.rules.specs.declared.Controller.{Controller}
 use Rattle.rules.specs.declared.Answer.{Answer}
 use Rattle.rules.specs.declared.Event.{Event}
@@ -19,29 +24,28 @@ unfoldable pub fresh : Controller
 fresh = resetAll (record { memory = replicate 256 0; core = resetCore })
 
 -- "Each returns its number and zero elsewhere, and leaves state .. unchanged"
-unfoldable pub refuse : Controller → ℕ → Answer
-refuse c number = record { refused = number; value = 0; next = c }
+unfoldable pub refuse : Controller → Refusal → Answer
+refuse c why = record { refused = number why; value = 0; next = c }
 
 unfoldable pub accept : ℕ → Controller → Answer
 accept value c = record { refused = 0; value = value; next = c }
 
+-- the first refusal whose test holds; else the answer of the accepted call
+unfoldable pub unlessRefused : Controller → List (Bool × Refusal) → Answer → Answer
+unlessRefused c [] a = a
+unlessRefused c (r ∷ rs) a = pick (r .0) (refuse c (r .1)) (unlessRefused c rs a)
+
 -- "Pin reset: 6."
 unfoldable pub pinReset : Controller → Answer
-pinReset c = pick (inRange (c .core)) (accept 0 (resetAll c)) (refuse c 6)
+pinReset c = unlessRefused c ((not (inRange (c .core)), Range) ∷ []) (accept 0 (resetAll c))
 
--- 6, 7, 1, then 2, 3, 8
+-- `% 256` changes no value that is accepted
 unfoldable pub hostWrite : Controller → ℕ → ℕ → Answer
 hostWrite c address value =
-    pick (eqb (accessRefused (c .core) address) 0)
-    (pick (eqb (writeRefused address value) 0) (accept 0 (written c address (value % 256))) (refuse c (writeRefused address value)))
-    (refuse c (accessRefused (c .core) address))
+    unlessRefused c (accessRefusals (c .core) address ++ writeRefusals address value) (accept 0 (hostWritten c address (value % 256)))
 
--- 6, 7, 1, then 4
 unfoldable pub hostRead : Controller → ℕ → Answer
-hostRead c address =
-    pick (eqb (accessRefused (c .core) address) 0)
-    (pick (eqb (readRefused address) 0) (accept (byteRead c address) c) (refuse c (readRefused address)))
-    (refuse c (accessRefused (c .core) address))
+hostRead c address = unlessRefused c (accessRefusals (c .core) address ++ readRefusals address) (accept (byteRead c address) c)
 
 -- "A slot's answer is the level for the next slot", as TXD after the transmit inversion
 unfoldable pub answered : Controller → Answer
@@ -54,9 +58,8 @@ restedSlot c = accept (transmitted (getD (c .memory) lineControl 0) 1) c
 -- "Slots: 6, 5; asleep gives recessive."
 unfoldable pub slot : Controller → ℕ → Answer
 slot c levels =
-    pick (inRange (c .core))
-    (pick (ltb 7 levels) (refuse c 5) (pick (isActive (c .core .activity .mode)) (answered (activeSlot c levels)) (restedSlot c)))
-    (refuse c 6)
+    unlessRefused c ((not (inRange (c .core)), Range) ∷ (ltb 7 levels, Levels) ∷ [])
+    (pick (isActive (c .core .activity .mode)) (answered (activeSlot c levels)) (restedSlot c))
 
 unfoldable pub step : Controller → Event → Answer
 step c Reset = pinReset c

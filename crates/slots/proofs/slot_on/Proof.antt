@@ -1,13 +1,13 @@
 use mathlib.Core.Path.{_∙_, ap}
 use borrow.Author.Tests.{lt-ltb, le-ltb}
 use Rattle.rules.specs.Definitions.Answers.{answerLent, number, refusedBy, valueOf}
-use Rattle.rules.specs.Definitions.Run.{slot, refuse, restedSlot, answered}
+use Rattle.rules.specs.Definitions.Run.{slot, refuse, unlessRefused, restedSlot, answered}
 use Rattle.slots.proofs.Ways.{answered-is}
 use Rattle.slots.proofs.slot_on.Statement.{statement}
 use Rattle.slots.proofs.slot_on.Tie as tie
 
 pub slot-on-spec : {M : Type 1} → statement M
-unfolding answerLent number refusedBy valueOf slot refuse restedSlot
+unfolding answerLent number refusedBy valueOf slot refuse unlessRefused restedSlot
 slot-on-spec =
     tie.close (tie.spec
     (λ c κs. tt)

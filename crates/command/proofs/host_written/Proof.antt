@@ -1,10 +1,10 @@
-use Rattle.rules.specs.Definitions.Host.{written, resetAll}
-use Rattle.command.proofs.written.Statement.{statement}
-use Rattle.command.proofs.written.Tie as tie
+use Rattle.rules.specs.Definitions.Host.{hostWritten, resetAll}
+use Rattle.command.proofs.host_written.Statement.{statement}
+use Rattle.command.proofs.host_written.Tie as tie
 
-pub written-spec : {M : Type 1} → statement M
-unfolding written resetAll
-written-spec =
+pub host-written-spec : {M : Type 1} → statement M
+unfolding hostWritten resetAll
+host-written-spec =
     tie.close (tie.spec
     (λ c κs. tt)
     (λ c κs. tt)
