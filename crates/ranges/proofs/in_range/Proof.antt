@@ -1,16 +1,32 @@
-use Rattle.rules.specs.Definitions.State.{inRange}
+use mathlib.Core.Bool.{true}
+use borrow.Author.Needs.{needs}
+use Rattle.line.specs.Frame.{size}
+use Rattle.rules.specs.Definitions.State.{ranges, inRange}
+use Rattle.ranges.proofs.Rows.{joined-within}
 use Rattle.ranges.proofs.in_range.Statement.{statement}
 use Rattle.ranges.proofs.in_range.Tie as tie
 
+mul-result : tie.Need-mul-result
+mul-result c = search needs
+
+add-result : tie.Need-add-result
+add-result c = search needs
+
+cast-result : tie.Need-cast-result
+cast-result c = search needs
+
+mul-result-2 : tie.Need-mul-result-2
+mul-result-2 c = search needs
+
+add-result-2 : tie.Need-add-result-2
+add-result-2 c = search needs
+
+sub-result : tie.Need-sub-result
+sub-result c = search needs
+
+returns : tie.Need-returns
+unfolding inRange ranges size
+returns c = joined-within true (ranges (c .before .before .before .before .before .before .before .before .before .before .before .before .before .before .before .before .before .args .k))
+
 pub in-range-spec : {M : Type 1} → statement M
-unfolding inRange
-in-range-spec =
-    tie.close (tie.spec
-    (λ c κs. tt)
-    (λ c κs. tt)
-    (λ c κs. tt)
-    (λ c κs. tt)
-    (λ c. simp (c .before .if3 .taken, c .before .before .before .if2 .taken, c .before .before .before .before .before .if1 .taken, ← (c .service-in-range .ensures), ← (c .before .before .reception-in-range .ensures), ← (c .before .before .before .before .line-in-range .ensures), ← (c .before .before .before .before .before .before .report-in-range .ensures)))
-    (λ c. simp (c .if3 .left, c .before .before .if2 .taken, c .before .before .before .before .if1 .taken, ← (c .before .reception-in-range .ensures), ← (c .before .before .before .line-in-range .ensures), ← (c .before .before .before .before .before .report-in-range .ensures)))
-    (λ c. simp (c .if2 .left, c .before .before .if1 .taken, ← (c .before .line-in-range .ensures), ← (c .before .before .before .report-in-range .ensures)))
-    (λ c. simp (c .if1 .left, ← (c .before .report-in-range .ensures))))
+in-range-spec = tie.close (tie.spec mul-result add-result cast-result mul-result-2 add-result-2 sub-result returns)

@@ -1,13 +1,13 @@
 -- The ranges of the state's numbers as facts, and what every reached controller keeps (01, Numbers refused, 6).
---   Limits == State.inRange as facts: limits-in-range, in-range-limits        Fine == what every reached controller keeps
-use Prim.Native.Nat.{_≤_}
-use mathlib.Core.Bool.{Bool, true, false, false≢true}
-use mathlib.Core.Path.{_≡_, refl}
-use borrow.Author.Tests.{le-leb, leb-true}
-use lib.Dec.{leb}
+--   Limits == State.ranges as facts: limits-in-range        Fine == what every reached controller keeps
+use Prim.Native.Nat.{_≤_, _-_}
+use mathlib.Core.Bool.{true}
+use mathlib.Core.Path.{_≡_}
+use borrow.Author.Tests.{le-leb}
 use Rattle.line.specs.Bits.{Below}
-use Rattle.rules.specs.Definitions.Registers.{both}
-use Rattle.rules.specs.Definitions.State.{winnerInRange, receptionInRange, effortInRange, serviceInRange, retriesInRange, reportInRange, lineInRange, inRange}
+use Rattle.line.specs.Frame.{size}
+use Rattle.rules.specs.Definitions.Longest.{capacity, mostNibbles}
+use Rattle.rules.specs.Definitions.State.{ranges, within, inRange}
 use Rattle.rules.specs.declared.Winner.{Winner}
 use Rattle.rules.specs.declared.Retries.{Retries}
 use Rattle.rules.specs.declared.Report.{Report}
@@ -26,15 +26,15 @@ pub record WinnerLimits (w : Winner) : Type 0 where
 
 pub record ReceptionLimits (r : Reception) : Type 0 where
   pub at : r .place .at ≤ 9
-  pub nibbles : r .nibbles ≤ 67
+  pub nibbles : r .nibbles ≤ mostNibbles capacity
   pub bits : r .bits ≤ 15
   pub winner : WinnerLimits (r .winner)
 
 pub record EffortLimits (e : Effort) : Type 0 where
-  pub n : e .frame .n ≤ 30
-  pub at : e .progress .at ≤ 359
-  pub errors : e .counters .errors .0 ≤ 15
+  pub n : e .frame .n ≤ capacity
   pub setting : e .setting ≤ 15
+  pub at : e .progress .at ≤ size capacity - 1
+  pub errors : e .counters .errors .0 ≤ 15
 
 pub record ServiceLimits (s : Service) : Type 0 where
   pub channel : s .channel ≤ 13
@@ -63,97 +63,26 @@ pub record Fine (c : Controller) : Type 0 where
   pub limits : Limits (c .core)
   pub retries : c .core .service .effort .counters .errors .0 ≤ c .core .service .effort .setting
 
--- ---- the facts make the test hold
-
-winner-in-range : (w : Winner) → WinnerLimits w → winnerInRange w ≡ true
-unfolding winnerInRange
-winner-in-range w l = rw (le-leb (w .channel) 13 (l .channel), le-leb (w .pointer) 127 (l .pointer)) (le-leb (w .length) 31 (l .length))
-
-reception-in-range : (r : Reception) → ReceptionLimits r → receptionInRange r ≡ true
-unfolding receptionInRange
-reception-in-range r l =
-    rw (le-leb (r .place .at) 9 (l .at), le-leb (r .nibbles) 67 (l .nibbles), le-leb (r .bits) 15 (l .bits)) (winner-in-range (r .winner) (l .winner))
-
-effort-in-range : (e : Effort) → EffortLimits e → effortInRange e ≡ true
-unfolding effortInRange
-effort-in-range e l =
-    rw (le-leb (e .frame .n) 30 (l .n), le-leb (e .progress .at) 359 (l .at), le-leb (e .counters .errors .0) 15 (l .errors)) (le-leb (e .setting) 15 (l .setting))
-
-service-in-range : (s : Service) → ServiceLimits s → serviceInRange s ≡ true
-unfolding serviceInRange
-service-in-range s l = rw (le-leb (s .channel) 13 (l .channel)) (effort-in-range (s .effort) (l .effort))
-
-retries-in-range : (r : Retries) → RetriesLimits r → retriesInRange r ≡ true
-unfolding retriesInRange
-retries-in-range r l = rw (le-leb (r .count) 15 (l .count)) (le-leb (r .channel) 13 (l .channel))
-
-report-in-range : (x : Report) → ReportLimits x → reportInRange x ≡ true
-unfolding reportInRange
-report-in-range x l =
-    rw (retries-in-range (x .sending) (l .sending), retries-in-range (x .message) (l .message)) (le-leb (x .error) 32 (l .error))
+-- ---- the facts make the test hold, row by row
 
 pub limits-in-range : (k : Core) → Limits k → inRange k ≡ true
-unfolding inRange lineInRange
+unfolding inRange within ranges
 limits-in-range k l =
-    rw (report-in-range (k .report) (l .report), le-leb (k .line .count) 12 (l .line), reception-in-range (k .reception) (l .reception)) (service-in-range (k .service) (l .service))
-
--- ---- the test gives the facts
-
-pub both-true : (a b : Bool) → both a b ≡ true → (a ≡ true) × (b ≡ true)
-both-true true b e = (refl, e)
-both-true false b e = absurd (false≢true e)
-
-range-winner : (w : Winner) → winnerInRange w ≡ true → WinnerLimits w
-unfolding winnerInRange
-range-winner w e =
-    let a = both-true (leb (w .channel) 13) _ e in
-    let b = both-true (leb (w .pointer) 127) (leb (w .length) 31) (a .1) in
-    record { channel = leb-true _ _ (a .0); pointer = leb-true _ _ (b .0); length = leb-true _ _ (b .1) }
-
-range-reception : (r : Reception) → receptionInRange r ≡ true → ReceptionLimits r
-unfolding receptionInRange
-range-reception r e =
-    let a = both-true (leb (r .place .at) 9) _ e in
-    let b = both-true (leb (r .nibbles) 67) _ (a .1) in
-    let d = both-true (leb (r .bits) 15) (winnerInRange (r .winner)) (b .1) in
-    record { at = leb-true _ _ (a .0); nibbles = leb-true _ _ (b .0); bits = leb-true _ _ (d .0); winner = range-winner (r .winner) (d .1) }
-
-range-effort : (e : Effort) → effortInRange e ≡ true → EffortLimits e
-unfolding effortInRange
-range-effort x e =
-    let a = both-true (leb (x .frame .n) 30) _ e in
-    let b = both-true (leb (x .progress .at) 359) _ (a .1) in
-    let d = both-true (leb (x .counters .errors .0) 15) (leb (x .setting) 15) (b .1) in
-    record { n = leb-true _ _ (a .0); at = leb-true _ _ (b .0); errors = leb-true _ _ (d .0); setting = leb-true _ _ (d .1) }
-
-range-service : (s : Service) → serviceInRange s ≡ true → ServiceLimits s
-unfolding serviceInRange
-range-service s e =
-    let a = both-true (leb (s .channel) 13) (effortInRange (s .effort)) e in
-    record { channel = leb-true _ _ (a .0); effort = range-effort (s .effort) (a .1) }
-
-range-retries : (r : Retries) → retriesInRange r ≡ true → RetriesLimits r
-unfolding retriesInRange
-range-retries r e =
-    let a = both-true (leb (r .count) 15) (leb (r .channel) 13) e in
-    record { count = leb-true _ _ (a .0); channel = leb-true _ _ (a .1) }
-
-range-report : (x : Report) → reportInRange x ≡ true → ReportLimits x
-unfolding reportInRange
-range-report x e =
-    let a = both-true (retriesInRange (x .sending)) _ e in
-    let b = both-true (retriesInRange (x .message)) (leb (x .error) 32) (a .1) in
-    record { sending = range-retries (x .sending) (a .0); message = range-retries (x .message) (b .0); error = leb-true _ _ (b .1) }
-
-pub in-range-limits : (k : Core) → inRange k ≡ true → Limits k
-unfolding inRange lineInRange
-in-range-limits k e =
-    let a = both-true (reportInRange (k .report)) _ e in
-    let b = both-true (lineInRange (k .line)) _ (a .1) in
-    let d = both-true (receptionInRange (k .reception)) (serviceInRange (k .service)) (b .1) in
-    record {
-      report = range-report (k .report) (a .0);
-      line = leb-true _ _ (b .0);
-      reception = range-reception (k .reception) (d .0);
-      service = range-service (k .service) (d .1);
-    }
+    rw (
+      le-leb _ _ (l .report .sending .count),
+      le-leb _ _ (l .report .sending .channel),
+      le-leb _ _ (l .report .message .count),
+      le-leb _ _ (l .report .message .channel),
+      le-leb _ _ (l .report .error),
+      le-leb _ _ (l .line),
+      le-leb _ _ (l .reception .at),
+      le-leb _ _ (l .reception .nibbles),
+      le-leb _ _ (l .reception .bits),
+      le-leb _ _ (l .reception .winner .channel),
+      le-leb _ _ (l .reception .winner .pointer),
+      le-leb _ _ (l .reception .winner .length),
+      le-leb _ _ (l .service .channel),
+      le-leb _ _ (l .service .effort .n),
+      le-leb _ _ (l .service .effort .setting),
+      le-leb _ _ (l .service .effort .at),
+      le-leb _ _ (l .service .effort .errors))

@@ -21,7 +21,7 @@ use Rattle.rules.specs.Definitions.Slots.{heardAs, heard, delivers, serv
 use Rattle.rules.specs.Definitions.Host.{resetAll, resets, sleeps, modeCommanded, rearCommanded, keptByte, flagsCleared, coreWritten, serviceAsked, stoppedCore, byteWritten, hostWritten, byteRead, accessRefusals, writeRefusals, readRefusals}
 use Rattle.rules.specs.Definitions.Answers.{number}
 use Rattle.rules.specs.Definitions.Run.{fresh, refuse, accept, unlessRefused, pinReset, hostWrite, hostRead, answered, restedSlot, slot, step, next, after}
-use Rattle.rules.proofs.Ranges.Limits.{RetriesLimits, ReportLimits, Fine, both-true, limits-in-range}
+use Rattle.rules.proofs.Ranges.Limits.{RetriesLimits, ReportLimits, Fine, limits-in-range}
 use Rattle.rules.proofs.Ranges.Bytes.{set-below, zeros-below, reset-below}
 use Rattle.rules.proofs.Ranges.Reception.{Received, quiet-received, judged-received, line-small, Heard, frame-heard, quiet-heard, heard-report, delivered-report, delivered-below}
 use Rattle.rules.proofs.Ranges.Service.{Served, resting-served, Judged, judged, own-heard, Spent, served-spent, judged-spent, stopped-ends, ending-ends, settled-served, ended-below, sending-report, judged-report, ended-report, choose-served, started-served, abort-served, rear-served}
@@ -273,6 +273,10 @@ never-six es = limits-in-range (after fresh es .core) (fine-after es .limits)
 
 abbrev Other : ℕ → Type 0
 Other n = n ≡ 6 → ⊥
+
+both-true : (a b : Bool) → both a b ≡ true → (a ≡ true) × (b ≡ true)
+both-true true b e = (refl, e)
+both-true false b e = absurd (false≢true e)
 
 -- no refusal of a list has number 6
 abbrev sixless : List (Bool × Refusal) → Bool

@@ -18,7 +18,7 @@ use Rattle.rules.proofs.Receiving.Rows.{nibble-below}
 use Rattle.rules.proofs.Ranges.Bytes.{at-below, zeros-below, stored-below, retagged-below, cher-below, chrx-below, nobody-limits, winner-limits}
 use Rattle.rules.specs.Definitions.Hearing.{lineAfter, receptionAfter, whole, replyRequest, checkReceived, checkDue, hearEndOfData, hearSecondHalf, hearBody, hearStart, acknowledges, acknowledgeWrong, hearAcknowledge, hearEnd, hearIn, hearFrame, hearQuiet}
 use Rattle.rules.specs.Definitions.Delivery.{memoryStored, memoryDelivered, receiveError, reportStored, reportHeard, reportDelivered}
-use Rattle.rules.specs.Definitions.Longest.{mostNibbles}
+use Rattle.rules.specs.Definitions.Longest.{capacity, mostNibbles}
 use Rattle.rules.specs.Definitions.Slots.{receptionJudged}
 use Rattle.rules.specs.declared.Report.{Report}
 use Rattle.rules.specs.declared.Line.{Line}
@@ -73,9 +73,9 @@ ended-received r f =
       bytes = nibble-below (f .bytes) (r .nibbles) (r .bits);
     }
 
-more-nibbles : (n : ℕ) → moreNibbles n ≤ 67
+more-nibbles : (n : ℕ) → moreNibbles n ≤ mostNibbles capacity
 unfolding moreNibbles
-more-nibbles n = picked (λ x. x ≤ 67) (ltb n 67) (n + 1) 67 (λ e. omega (arith, ltb-true)) (λ e. omega arith)
+more-nibbles n = picked (λ x. x ≤ mostNibbles capacity) (ltb n (mostNibbles capacity)) (n + 1) (mostNibbles capacity) (λ e. omega (arith, ltb-true)) (λ e. omega arith)
 
 nibble-received : (r : Reception) → Received r → Received (nibbleTaken r)
 unfolding nibbleTaken bitsLaid entered atPlace

@@ -1,7 +1,7 @@
 -- What a sample, the choice, the start, an abort and REAR do to a fine service, and the service to the registers and the memory map.
 --   Served == the service between events        Judged == what a sample may be for the attempt        Spent == the service once the attempt has spent the slot
 --   Ends == how it may end: it goes on only with errors at most R
-use Prim.Native.Nat.{ℕ, _+_, _%_, _≤_, _<_}
+use Prim.Native.Nat.{ℕ, _+_, _-_, _%_, _≤_, _<_}
 use mathlib.Core.Bool.{Bool, false, false≢true}
 use mathlib.Core.List.{List}
 use mathlib.Core.Path.{_≡_, sym}
@@ -16,6 +16,7 @@ use Rattle.line.specs.declared.Part.{Part}
 use Rattle.line.specs.declared.Part.the-variants.{Start, Identifier, Command, Data, Check, EndOfData, Acknowledge, EndOfFrame, After}
 use Rattle.line.specs.declared.Half.{Half}
 use Rattle.line.specs.declared.Half.the-variants.{Plain, First, Second}
+use Rattle.rules.specs.Definitions.Longest.{capacity}
 use Rattle.rules.specs.Definitions.Registers.{both, CV, ACKE, FCSE}
 use Rattle.rules.specs.Definitions.Mailbox.{coded}
 use Rattle.rules.specs.Definitions.Reception.{free, underWay, startEnded}
@@ -116,8 +117,8 @@ own-heard e done = good
 
 pub record Spent (s : Service) : Type 0 where
   pub channel : s .channel ≤ 13
-  pub n : s .effort .frame .n ≤ 30
-  pub at : s .effort .progress .at ≤ 359
+  pub n : s .effort .frame .n ≤ capacity
+  pub at : s .effort .progress .at ≤ size capacity - 1
   pub setting : s .effort .setting ≤ 15
   pub over : betweenAttempts (s .effort .progress) ≡ false → s .effort .counters .errors .0 ≤ s .effort .setting
 
@@ -239,7 +240,7 @@ pub choose-served : {m : List ℕ} → Below 256 m → (longest : ℕ) → Serve
 unfolding choose
 choose-served {m} b longest = choice-served b (ready-named m longest)
 
-opened-served : (s : Service) (k : ℕ) → k ≤ 359 → Served s → Served (opened s k)
+opened-served : (s : Service) (k : ℕ) → k ≤ size capacity - 1 → Served s → Served (opened s k)
 unfolding opened atStage
 opened-served s k h f =
     let l = f .limits in
@@ -249,7 +250,7 @@ opened-served s k h f =
     }
 
 pub started-served : (s : Service) (autonomous : Bool) (l : Line) (r : Reception) → Served s → Served (started s autonomous l r)
-unfolding started
+unfolding started size
 started-served s autonomous l r f =
     picked Served (waits (s .effort .progress)) _ s
     (λ e. picked Served (startEnded r) (opened s 10) _ (λ d. opened-served s 10 (omega arith) f)

@@ -1,20 +1,18 @@
 -- The state, its modes and its ranges (01, Memory map; Numbers refused, 6).
---   inRange == every number of the state is in its range        resetCore == the state after reset
+--   ranges == the numbers of the state, each with its largest value        inRange == each is in its range        resetCore == the state after reset
 --   idled, idleDue, slept, idleAsked, activated == the commands IDLE, SLEEP, ACTI
+use Prim.Native.Nat.{ℕ, _-_}
 use mathlib.Core.Bool.{Bool, true, false}
+use mathlib.Core.List.{List, [], _∷_}
 use lib.Dec.{leb}
 use Rattle.line.specs.Bits.{pick}
+use Rattle.line.specs.Frame.{size}
+use Rattle.rules.specs.Definitions.Longest.{capacity, mostNibbles}
 use Rattle.rules.specs.Definitions.Setters.{withActivity, withLine, withReception, withService}
 use Rattle.rules.specs.Definitions.Registers.{both, resetReport}
 use Rattle.rules.specs.Definitions.Reception.{unsettled, quiet}
 use Rattle.rules.specs.Definitions.Attempt.{inService}
 use Rattle.rules.specs.Definitions.Service.{resting}
-use Rattle.rules.specs.declared.Winner.{Winner}
-use Rattle.rules.specs.declared.Retries.{Retries}
-use Rattle.rules.specs.declared.Report.{Report}
-use Rattle.rules.specs.declared.Line.{Line}
-use Rattle.rules.specs.declared.Reception.{Reception}
-use Rattle.rules.specs.declared.Effort.{Effort}
 use Rattle.rules.specs.declared.Service.{Service}
 use Rattle.rules.specs.declared.Mode.{Mode}
 use Rattle.rules.specs.declared.Mode.the-variants.{Idle, Active, Asleep}
@@ -44,34 +42,37 @@ inMode mode waiting = record { mode = mode; waiting = waiting }
 unfoldable pub serving : Service → Bool
 serving s = inService (s .effort .progress)
 
--- ---- number 6: "a state number outside its range", one by one
+-- ---- number 6: "a state number outside its range"
 
-unfoldable pub winnerInRange : Winner → Bool
-winnerInRange w = both (leb (w .channel) 13) (both (leb (w .pointer) 127) (leb (w .length) 31))
+-- every number of the state that has a range, and its largest value: the rows of docs/STATE.md. Truth values, enums and bytes whose every value is meant have none
+unfoldable pub ranges : Core → List (ℕ × ℕ)
+ranges k =
+    (k .report .sending .count, 15)
+    ∷ (k .report .sending .channel, 13)
+    ∷ (k .report .message .count, 15)
+    ∷ (k .report .message .channel, 13)
+    ∷ (k .report .error, 32)
+    ∷ (k .line .count, 12)
+    ∷ (k .reception .place .at, 9)
+    ∷ (k .reception .nibbles, mostNibbles capacity)
+    ∷ (k .reception .bits, 15)
+    ∷ (k .reception .winner .channel, 13)
+    ∷ (k .reception .winner .pointer, 127)
+    ∷ (k .reception .winner .length, 31)
+    ∷ (k .service .channel, 13)
+    ∷ (k .service .effort .frame .n, capacity)
+    ∷ (k .service .effort .setting, 15)
+    ∷ (k .service .effort .progress .at, size capacity - 1)
+    ∷ (k .service .effort .counters .errors .0, 15)
+    ∷ []
 
-unfoldable pub receptionInRange : Reception → Bool
-receptionInRange r =
-    both (leb (r .place .at) 9) (both (leb (r .nibbles) 67) (both (leb (r .bits) 15) (winnerInRange (r .winner))))
-
-unfoldable pub effortInRange : Effort → Bool
-effortInRange e =
-    both (leb (e .frame .n) 30) (both (leb (e .progress .at) 359) (both (leb (e .counters .errors .0) 15) (leb (e .setting) 15)))
-
-unfoldable pub serviceInRange : Service → Bool
-serviceInRange s = both (leb (s .channel) 13) (effortInRange (s .effort))
-
-unfoldable pub retriesInRange : Retries → Bool
-retriesInRange r = both (leb (r .count) 15) (leb (r .channel) 13)
-
-unfoldable pub reportInRange : Report → Bool
-reportInRange x = both (retriesInRange (x .sending)) (both (retriesInRange (x .message)) (leb (x .error) 32))
-
-unfoldable pub lineInRange : Line → Bool
-lineInRange l = leb (l .count) 12
+-- every value of a list is at most its largest
+unfoldable pub within : List (ℕ × ℕ) → Bool
+within [] = true
+within (r ∷ rs) = both (leb (r .0) (r .1)) (within rs)
 
 unfoldable pub inRange : Core → Bool
-inRange k =
-    both (reportInRange (k .report)) (both (lineInRange (k .line)) (both (receptionInRange (k .reception)) (serviceInRange (k .service))))
+inRange k = within (ranges k)
 
 -- ---- reset
 
