@@ -85,4 +85,5 @@ limits-in-range k l =
       le-leb _ _ (l .service .effort .n),
       le-leb _ _ (l .service .effort .setting),
       le-leb _ _ (l .service .effort .at),
-      le-leb _ _ (l .service .effort .errors))
+      le-leb _ _ (l .service .effort .errors),
+    )
