@@ -2,8 +2,6 @@
 ghost use mathlib.Core.Path.{_≡_};
 ghost use Prim.Native.Nat.{_+_, _*_, _/_, _%_};
 ghost use lib.ListN.{getD};
-ghost use Rattle.line.specs.Check as check;
-ghost use Rattle.line.specs.Frame as frame;
 ghost use Rattle.rules.specs.Definitions.Longest as longest_rule;
 ghost use Rattle.rules.specs.Definitions.Hearing as rule;
 use registers::Code;
@@ -70,22 +68,15 @@ fn check_received(bytes: [u8; 34], n: u8, last: u8) -> u16
     fifteen(high, low, last)
 }
 
-// The check over a row of bytes.
-fn check_of(bytes: &[u8]) -> u16
-    ensures { λ r. ⌜ r ≡ check.check (frame.byteBits (now (bytes .entry))) ⌝ }
-{
-    32767 - frame_check::check_bytes(32767, bytes)
-}
-
 // The check of identifier, command and n data bytes. A frame's bytes hold at most 32.
 fn check_due(bytes: [u8; 34], n: u8) -> u16
     ensures { λ r. ⌜ r ≡ rule.checkDue bytes n ⌝ }
 {
     if n < 32 {
         let end = n as usize + 2;
-        return check_of(&bytes[..end]);
+        return frame_check::check_of(&bytes[..end]);
     }
-    check_of(&bytes)
+    frame_check::check_of(&bytes)
 }
 
 // ---- the judgement

@@ -4,7 +4,7 @@
 --   codec: `encoded`, `encodedRoom` (crates/encoder/src/lib.rt); `decoded`, `decodedRoom` of `reading` (crates/decoder/src/lib.rt)
 --   session: `session`, `eventAt` (crates/session/src/lib.rt); numbers: `number` (crates/number/src/lib.rt)
 --   listing: `played`, `playedRoom` of `listingOf`, and `first_lines` (crates/player/src/lib.rt); for C: crates/frapmast/src/lib.rt
-use Prim.Native.Nat.{ℕ, _+_, _*_, _%_, _≤_, _<_}
+use Prim.Native.Nat.{ℕ, _+_, _-_, _*_, _/_, _%_, _≤_, _<_}
 use mathlib.Core.Bool.{true, false}
 use mathlib.Core.List.{List, [], _∷_, _++_}
 use mathlib.Core.Logic.{_↔_}
@@ -99,10 +99,11 @@ pub record Frames : Type 0 where
   pub decoded : (longest : ℕ) (f : Frame) → Fits longest f → reading longest (slots f) ≡ frame f
   pub encoded : (longest : ℕ) (s : List ℕ) (f : Frame) → reading longest s ≡ frame f → slots f ≡ s
   pub one : (longest : ℕ) (f g : Frame) → Fits longest f → Fits longest g → slots f ≡ slots g → f ≡ g
-  -- "Whole frame: 60 + 10n slots"; the level of each by its part and place; the table of the 16 nibbles
+  -- "Whole frame: 60 + 10n slots"; the level of each by its part and place; the table of the 16 nibbles, and the line code as its rows
   pub long : (f : Frame) → length (slots f) ≡ 60 + 10 * length (f .bytes)
   pub level : (f : Frame) (k : ℕ) → levelOf f k ≡ getD (slots f) k 1
-  pub table : (n : ℕ) → bits 5 (pattern n) ≡ lineCode (bits 4 n)
+  pub table : (n : ℕ) → pattern n ≡ (n / 8 % 2) ∷ (n / 4 % 2) ∷ (n / 2 % 2) ∷ (n % 2) ∷ (1 - n % 2) ∷ []
+  pub nibbles : (n : ℕ) (s : List ℕ) → lineCode (bits 4 n ++ s) ≡ pattern n ++ lineCode s
 
 pub record Matching : Type 0 where
   -- "A frame matches when every tag bit under a mask one equals the identifier's": then, and only then
@@ -159,9 +160,9 @@ pub record Sending : Type 0 where
 
 pub record Marked : Type 0 where
   -- "P1 nibble 0: 00001. P2 15: 11110. P3 8: 10001."
-  pub p1 : lineCode (bits 4 0) ≡ 0 ∷ 0 ∷ 0 ∷ 0 ∷ 1 ∷ []
-  pub p2 : lineCode (bits 4 15) ≡ 1 ∷ 1 ∷ 1 ∷ 1 ∷ 0 ∷ []
-  pub p3 : lineCode (bits 4 8) ≡ 1 ∷ 0 ∷ 0 ∷ 0 ∷ 1 ∷ []
+  pub p1 : pattern 0 ≡ 0 ∷ 0 ∷ 0 ∷ 0 ∷ 1 ∷ []
+  pub p2 : pattern 15 ≡ 1 ∷ 1 ∷ 1 ∷ 1 ∷ 0 ∷ []
+  pub p3 : pattern 8 ≡ 1 ∷ 0 ∷ 0 ∷ 0 ∷ 1 ∷ []
   -- "P4 n 0: 60 slots. P5 n 30: 360."
   pub p4 : (f : Frame) → length (f .bytes) ≡ 0 → length (slots f) ≡ 60
   pub p5 : (f : Frame) → length (f .bytes) ≡ 30 → length (slots f) ≡ 360

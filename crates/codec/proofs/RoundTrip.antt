@@ -8,11 +8,11 @@ use borrow.Author.Tests.{eq-eqb, ne-eqb, le-ltb, le-leb, lt-leb, eqb-true, eqb-f
 use lib.Dec.{eqb, ltb, leb}
 use lib.ListN.{length, take, drop, length-append, length-drop, take-append-drop}
 use lib.Seq.{take-at, drop-at, drop-drop, take-add, length-take-le}
-use Rattle.line.specs.Bits.{pick, bits, number, Below, none, one}
+use Rattle.line.specs.Bits.{pick, bits, bitsValue, Below, none, one}
 use Rattle.line.specs.LineCode.{lineCode}
 use Rattle.line.specs.Check.{check}
 use Rattle.line.specs.Frame.{Frame, Fits, byteBits, covered, carried, start, endOfData, endOfFrame, acknowledgeSlots, slots}
-use Rattle.line.proofs.Laws.{bits-length, bits-below, number-bits, number-below, bits-written, check-below, covered-length, carried-length}
+use Rattle.line.proofs.Laws.{bits-length, bits-below, value-bits, value-below, bits-value, check-below, covered-length, carried-length}
 use Rattle.codec.specs.declared.Refusal.{Refusal}
 use Rattle.codec.specs.declared.Refusal.the-variants.{Level, Start, Pair, Length, Check, Acknowledge, EndOfFrame, CutShort}
 use Rattle.codec.specs.Decode.{Read, read, fault, Reading, frame, refused, after, levels, expected, most, nibbles, whole, plainRun, right, secondSlot, acknowledged, bytesOf, frameOf, ended, closing, judged, reading}
@@ -108,7 +108,7 @@ bytes-back : {bs : List ℕ} → Below 256 bs → (t : List ℕ) → bytesOf (le
 unfolding bytesOf byteBits
 bytes-back none t = refl
 bytes-back (one {x = b} {xs = bs} h s) t =
-    rw (append-assoc (bits 8 b), take-at (bits 8 b) (byteBits bs ++ t) 8 (bits-length 8 b), drop-at (bits 8 b) (byteBits bs ++ t) 8 (bits-length 8 b), number-bits 8 b h, bytes-back s t)
+    rw (append-assoc (bits 8 b), take-at (bits 8 b) (byteBits bs ++ t) 8 (bits-length 8 b), drop-at (bits 8 b) (byteBits bs ++ t) 8 (bits-length 8 b), value-bits 8 b h, bytes-back s t)
 
 end-back : expected EndOfFrame endOfFrame endOfFrame ≡ read tt []
 unfolding expected endOfFrame
@@ -130,7 +130,7 @@ module _ (f : Frame) where
   unfolding right carried
   right-back =
       let m : length (carried f) - 15 ≡ length (covered f) = omega (arith, carried-length f, covered-length f) in
-      rw (m, take-at (covered f) (bits 15 (check (covered f))) (length (covered f)) refl, drop-at (covered f) (bits 15 (check (covered f))) (length (covered f)) refl, number-bits 15 (check (covered f)) (check-below (covered f)))
+      rw (m, take-at (covered f) (bits 15 (check (covered f))) (length (covered f)) refl, drop-at (covered f) (bits 15 (check (covered f))) (length (covered f)) refl, value-bits 15 (check (covered f)) (check-below (covered f)))
       (eq-eqb (check (covered f)) (check (covered f)) refl)
 
   slots-below : Below 2 (slots f)
@@ -145,8 +145,8 @@ module _ (longest : ℕ) (f : Frame) (fits : Fits longest f) where
   frame-back : frameOf (carried f) (f .acknowledge) ≡ f
   unfolding frameOf
   frame-back =
-      let i : number (take 12 (carried f)) ≡ f .identifier = rw (regroup f, take-at (bits 12 (f .identifier)) (bits 4 (f .command) ++ (byteBits (f .bytes) ++ bits 15 (check (covered f)))) 12 (bits-length 12 (f .identifier))) (number-bits 12 (f .identifier) (omega (arith, fits .identifier))) in
-      let c : number (take 4 (drop 12 (carried f))) ≡ f .command = rw (behind-identifier f, take-at (bits 4 (f .command)) (byteBits (f .bytes) ++ bits 15 (check (covered f))) 4 (bits-length 4 (f .command))) (number-bits 4 (f .command) (omega (arith, fits .command))) in
+      let i : bitsValue (take 12 (carried f)) ≡ f .identifier = rw (regroup f, take-at (bits 12 (f .identifier)) (bits 4 (f .command) ++ (byteBits (f .bytes) ++ bits 15 (check (covered f)))) 12 (bits-length 12 (f .identifier))) (value-bits 12 (f .identifier) (omega (arith, fits .identifier))) in
+      let c : bitsValue (take 4 (drop 12 (carried f))) ≡ f .command = rw (behind-identifier f, take-at (bits 4 (f .command)) (byteBits (f .bytes) ++ bits 15 (check (covered f))) 4 (bits-length 4 (f .command))) (value-bits 4 (f .command) (omega (arith, fits .command))) in
       let n : (length (carried f) - 31) / 8 ≡ length (f .bytes) = omega (arith, carried-length f) in
       let b : bytesOf ((length (carried f) - 31) / 8) (drop 16 (carried f)) ≡ f .bytes = rw (n, behind-command f) (bytes-back (fits .bytes) (bits 15 (check (covered f)))) in
       λ j. record { identifier = i j; command = c j; bytes = b j; acknowledge = f .acknowledge }
@@ -280,9 +280,9 @@ acknowledged-is (x ∷ y ∷ s) a t (one hx (one hy l)) e = go (eqb x 1) refl (e
         rw (← a-is, ← t-is) cc
     go false p q h e = absurd (fault-read e)
 
-bits-number : (w : ℕ) (s : List ℕ) → Below 2 s → length s ≡ w → bits w (number s) ≡ s
-unfolding number
-bits-number w s l e = rw (← e) (bits-written l 0)
+bits-of-value : (w : ℕ) (s : List ℕ) → Below 2 s → length s ≡ w → bits w (bitsValue s) ≡ s
+unfolding bitsValue
+bits-of-value w s l e = rw (← e) (bits-value l 0)
 
 bytes-bits : (n : ℕ) (s : List ℕ) → Below 2 s → 8 * n ≤ length s → byteBits (bytesOf n s) ≡ take (8 * n) s
 unfolding byteBits bytesOf
@@ -290,7 +290,7 @@ bytes-bits zero s l h = refl
 bytes-bits (suc n) s l h =
     let e : 8 * suc n ≡ 8 + 8 * n = omega arith in
     let d = length-drop 8 s in
-    rw (bits-number 8 (take 8 s) (below-take 8 l) (length-take-le 8 s (omega arith)), bytes-bits n (drop 8 s) (below-drop 8 l) (omega arith), e)
+    rw (bits-of-value 8 (take 8 s) (below-take 8 l) (length-take-le 8 s (omega arith)), bytes-bits n (drop 8 s) (below-drop 8 l) (omega arith), e)
     (sym (take-add 8 (8 * n) s))
 
 pub bytes-long : (n : ℕ) (s : List ℕ) → length (bytesOf n s) ≡ n
@@ -298,15 +298,15 @@ unfolding bytesOf
 bytes-long zero s = refl
 bytes-long (suc n) s = ap suc (bytes-long n (drop 8 s))
 
-number-lt : (w : ℕ) (s : List ℕ) → Below 2 s → length s ≡ w → number s < 2 ^ w
-number-lt w s l e = rw e at (number-below l)
+value-lt : (w : ℕ) (s : List ℕ) → Below 2 s → length s ≡ w → bitsValue s < 2 ^ w
+value-lt w s l e = rw e at (value-below l)
 
 bytes-are-below : (n : ℕ) (s : List ℕ) → Below 2 s → 8 * n ≤ length s → Below 256 (bytesOf n s)
 unfolding bytesOf
 bytes-are-below zero s l h = none
 bytes-are-below (suc n) s l h =
     let d = length-drop 8 s in
-    one (number-lt 8 (take 8 s) (below-take 8 l) (length-take-le 8 s (omega arith))) (bytes-are-below n (drop 8 s) (below-drop 8 l) (omega arith))
+    one (value-lt 8 (take 8 s) (below-take 8 l) (length-take-le 8 s (omega arith))) (bytes-are-below n (drop 8 s) (below-drop 8 l) (omega arith))
 
 -- bits that hold a frame of n data bytes and its check
 module _ (bs : List ℕ) (n : ℕ) (l : Below 2 bs) (long : length bs ≡ 31 + 8 * n) (a : Bool) where
@@ -319,23 +319,23 @@ module _ (bs : List ℕ) (n : ℕ) (l : Below 2 bs) (long : length bs ≡ 31 + 8
       let d = length-drop 12 bs in
       let d′ = length-drop 16 bs in
       let e : 16 + 8 * n ≡ 12 + (4 + 8 * n) = omega arith in
-      rw (count-is, bits-number 12 (take 12 bs) (below-take 12 l) (length-take-le 12 bs (omega arith)), bits-number 4 (take 4 (drop 12 bs)) (below-take 4 (below-drop 12 l)) (length-take-le 4 (drop 12 bs) (omega arith)), bytes-bits n (drop 16 bs) (below-drop 16 l) (omega arith), e, take-add 12 (4 + 8 * n) bs, take-add 4 (8 * n) (drop 12 bs), drop-drop 4 12 bs)
+      rw (count-is, bits-of-value 12 (take 12 bs) (below-take 12 l) (length-take-le 12 bs (omega arith)), bits-of-value 4 (take 4 (drop 12 bs)) (below-take 4 (below-drop 12 l)) (length-take-le 4 (drop 12 bs) (omega arith)), bytes-bits n (drop 16 bs) (below-drop 16 l) (omega arith), e, take-add 12 (4 + 8 * n) bs, take-add 4 (8 * n) (drop 12 bs), drop-drop 4 12 bs)
 
   carried-is : right bs ≡ true → carried (frameOf bs a) ≡ bs
   unfolding carried right
   carried-is r =
       let m : length bs - 15 ≡ 16 + 8 * n = omega arith in
       let d = length-drop (16 + 8 * n) bs in
-      let c : number (drop (16 + 8 * n) bs) ≡ check (take (16 + 8 * n) bs) = rw m at (eqb-true (number (drop (length bs - 15) bs)) (check (take (length bs - 15) bs)) r) in
-      rw (covered-is, ← c, bits-number 15 (drop (16 + 8 * n) bs) (below-drop (16 + 8 * n) l) (omega arith)) (take-append-drop (16 + 8 * n) bs)
+      let c : bitsValue (drop (16 + 8 * n) bs) ≡ check (take (16 + 8 * n) bs) = rw m at (eqb-true (bitsValue (drop (length bs - 15) bs)) (check (take (length bs - 15) bs)) r) in
+      rw (covered-is, ← c, bits-of-value 15 (drop (16 + 8 * n) bs) (below-drop (16 + 8 * n) l) (omega arith)) (take-append-drop (16 + 8 * n) bs)
 
   fits-is : (longest : ℕ) → n ≤ longest → Fits longest (frameOf bs a)
   unfolding frameOf
   fits-is longest h =
       let d = length-drop 12 bs in
       let d′ = length-drop 16 bs in
-      let i = number-lt 12 (take 12 bs) (below-take 12 l) (length-take-le 12 bs (omega arith)) in
-      let c = number-lt 4 (take 4 (drop 12 bs)) (below-take 4 (below-drop 12 l)) (length-take-le 4 (drop 12 bs) (omega arith)) in
+      let i = value-lt 12 (take 12 bs) (below-take 12 l) (length-take-le 12 bs (omega arith)) in
+      let c = value-lt 4 (take 4 (drop 12 bs)) (below-take 4 (below-drop 12 l)) (length-take-le 4 (drop 12 bs) (omega arith)) in
       record {
         identifier = omega arith;
         command = omega arith;

@@ -9,7 +9,7 @@ use mathlib.Core.Bool.{Bool, true, false}
 use mathlib.Core.List.{List, [], _∷_, _++_}
 use lib.Dec.{eqb, ltb, leb}
 use lib.ListN.{length, take, drop}
-use Rattle.line.specs.Bits.{pick, number}
+use Rattle.line.specs.Bits.{pick, bitsValue}
 use Rattle.line.specs.Check.{check}
 use Rattle.line.specs.Frame.{Frame, start, endOfFrame}
 use Rattle.codec.specs.Answer.{laid}
@@ -69,7 +69,7 @@ unfoldable mutual
 
 -- the last fifteen bits are the check of those before them
 unfoldable pub right : List ℕ → Bool
-right bs = eqb (number (drop (length bs - 15) bs)) (check (take (length bs - 15) bs))
+right bs = eqb (bitsValue (drop (length bs - 15) bs)) (check (take (length bs - 15) bs))
 
 -- "10 present, 11 absent"
 unfoldable pub secondSlot : List ℕ → Read Bool
@@ -82,14 +82,14 @@ acknowledged (a ∷ s) = pick (eqb a 1) (secondSlot s) (fault Acknowledge)
 
 unfoldable pub bytesOf : ℕ → List ℕ → List ℕ
 bytesOf zero bs = []
-bytesOf (suc n) bs = number (take 8 bs) ∷ bytesOf n (drop 8 bs)
+bytesOf (suc n) bs = bitsValue (take 8 bs) ∷ bytesOf n (drop 8 bs)
 
 -- 12 bits of identifier, 4 of command, 8 for each data byte, 15 of check
 unfoldable pub frameOf : List ℕ → Bool → Frame
 frameOf bs a =
     record {
-      identifier = number (take 12 bs);
-      command = number (take 4 (drop 12 bs));
+      identifier = bitsValue (take 12 bs);
+      command = bitsValue (take 4 (drop 12 bs));
       bytes = bytesOf ((length bs - 31) / 8) (drop 16 bs);
       acknowledge = a;
     }

@@ -68,8 +68,8 @@ fn decimal(s: &[u8]) -> u32 {
     x
 }
 
-// Word k as a number.
-fn number(s: &[u8], k: u8) -> u32 {
+// The value of word k.
+fn value_of(s: &[u8], k: u8) -> u32 {
     decimal(word(s, k))
 }
 
@@ -153,11 +153,11 @@ fn encode_case(s: &[u8]) {
 }
 
 fn encode_words(s: &[u8], bytes: &[u8], slots: &mut [u8]) -> Encoded {
-    let acknowledge = number(s, 4) == 1;
-    let room = number(s, 5) as usize;
+    let acknowledge = value_of(s, 4) == 1;
+    let room = value_of(s, 5) as usize;
     encoder::encode(
-        number(s, 1),
-        number(s, 2),
+        value_of(s, 1),
+        value_of(s, 2),
         bytes,
         acknowledge,
         front(slots, room),
@@ -177,7 +177,7 @@ fn decode_case(s: &[u8]) {
     let mut slots = [0u8; 512];
     let mut data = [0u8; 80];
     let n = read_slots(word(s, 1), &mut slots);
-    let room = number(s, 2) as usize;
+    let room = value_of(s, 2) as usize;
     match decoder::decode(part(&slots, 0, n), front(&mut data, room)) {
         Decoded::Refused(r) => say_refused(r),
         Decoded::Accepted(h) => say_frame(h, &data),
@@ -199,8 +199,8 @@ fn captured_case(s: &[u8]) {
     let mut slots = [0u8; 512];
     let n = read_bytes(word(s, 3), &mut data) % 31;
     let _ = encoder::encode(
-        number(s, 1),
-        number(s, 2),
+        value_of(s, 1),
+        value_of(s, 2),
         part(&data, 0, n),
         true,
         &mut slots,
@@ -237,7 +237,7 @@ fn byte_at(s: &[u8], at: usize) -> u8 {
 fn bytes_case(s: &[u8]) {
     let mut data = [0u8; 80];
     let n = read_bytes(word(s, 1), &mut data);
-    let check = 32767 - frame_check::check_bytes(32767, part(&data, 0, n)) % 32768;
+    let check = frame_check::check_of(part(&data, 0, n));
     say_bytes(&[(check / 256) as u8, (check % 256) as u8]);
 }
 

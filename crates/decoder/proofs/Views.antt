@@ -10,10 +10,10 @@ use lib.Dec.{eqb, ltb, leb}
 use lib.ListN.{getD, set, length, take, drop, length-drop, drop-of-length-le}
 use lib.Seq.{take-at, drop-at, sets}
 use borrow.Author.Tests.{eqb-true, leb-true, lt-ltb, le-ltb}
-use Rattle.line.specs.Bits.{pick, number, written, Below, none, one}
+use Rattle.line.specs.Bits.{pick, bitsValue, bitsValueFrom, Below, none, one}
 use Rattle.line.specs.Check.{checkBit, remainder, check, allOnes}
 use Rattle.line.specs.Frame.{Frame, start, endOfFrame}
-use Rattle.line.proofs.Laws.{next, number-below, written-append, remainder-append}
+use Rattle.line.proofs.Laws.{next, value-below, value-append, remainder-append}
 use Rattle.codec.specs.declared.Refusal.{Refusal}
 use Rattle.codec.specs.declared.Refusal.the-variants.{Level, Start, Pair, Length, Check, Acknowledge, EndOfFrame, CutShort, LeftOver, Room}
 use Rattle.codec.specs.declared.Head.{Head}
@@ -66,16 +66,16 @@ view-drop s i a n h =
     let e : n ≡ a + (n - a) = omega arith in
     ap (λ (m : ℕ). drop a (view s i m)) e ∙ rw (view-append s i a (n - a)) (drop-at (view s i a) (view s (i + a) (n - a)) a (view-length s i a))
 
-pub number-next : (s : List ℕ) (i k : ℕ) → number (view s i (k + 1)) ≡ number (view s i k) * 2 + getD s (10 + (i + k) + (i + k) / 4) 0
-unfolding number written
-number-next s i k = rw view-last (written-append 0 (view s i k) (getD s (10 + (i + k) + (i + k) / 4) 0 ∷ []))
+pub value-next : (s : List ℕ) (i k : ℕ) → bitsValue (view s i (k + 1)) ≡ bitsValue (view s i k) * 2 + getD s (10 + (i + k) + (i + k) / 4) 0
+unfolding bitsValue bitsValueFrom
+value-next s i k = rw view-last (value-append 0 (view s i k) (getD s (10 + (i + k) + (i + k) / 4) 0 ∷ []))
 
-pub number-view : {s : List ℕ} → Below 2 s → (i k : ℕ) → number (view s i k) < 2 ^ k
-number-view {s} l i k = rw (view-length s i k) at (number-below (view-below l i k))
+pub value-view : {s : List ℕ} → Below 2 s → (i k : ℕ) → bitsValue (view s i k) < 2 ^ k
+value-view {s} l i k = rw (view-length s i k) at (value-below (view-below l i k))
 
-pub number-small : {s : List ℕ} → Below 2 s → (i k m : ℕ) → k ≤ m → number (view s i k) < 2 ^ m
-number-small l i k m h =
-    let a = number-view l i k in
+pub value-small : {s : List ℕ} → Below 2 s → (i k m : ℕ) → k ≤ m → bitsValue (view s i k) < 2 ^ m
+value-small l i k m h =
+    let a = value-view l i k in
     let b : 2 ^ k ≤ 2 ^ m = pow-le-pow-right (omega arith) h in
     omega arith
 
@@ -185,7 +185,7 @@ module _ (s : List ℕ) (j : ℕ) where
 -- ---- the check, the acknowledge and the end
 
 pub right-view : (s : List ℕ) (j : ℕ) → 3 ≤ j →
-    right (seenBits s j) ≡ eqb (number (view s (4 * j - 12) 15)) (32767 - remainder allOnes (view s 0 (4 * j - 12)))
+    right (seenBits s j) ≡ eqb (bitsValue (view s (4 * j - 12) 15)) (32767 - remainder allOnes (view s 0 (4 * j - 12)))
 unfolding right check allOnes
 right-view s j h =
     let m : 4 * j + 3 - 15 ≡ 4 * j - 12 = omega arith in
@@ -271,11 +271,11 @@ count-seen s j a h =
     rw (view-length s 0 (4 * j + 3), e) (bytes-long ((j - 7) / 2) (drop 16 (seenBits s j)))
 
 pub head-seen : (s : List ℕ) (j : ℕ) (a : Bool) → 7 ≤ j →
-    headOf (frameOf (seenBits s j) a) ≡ record { identifier = number (view s 0 12); command = number (view s 12 4); count = (j - 7) / 2; acknowledge = a }
+    headOf (frameOf (seenBits s j) a) ≡ record { identifier = bitsValue (view s 0 12); command = bitsValue (view s 12 4); count = (j - 7) / 2; acknowledge = a }
 unfolding headOf frameOf
 head-seen s j a h =
-    let i : number (take 12 (seenBits s j)) ≡ number (view s 0 12) = rw (view-take s 0 12 (4 * j + 3) (omega arith)) in
-    let c : number (take 4 (drop 12 (seenBits s j))) ≡ number (view s 12 4) = rw (view-drop s 0 12 (4 * j + 3) (omega arith), view-take s 12 4 (4 * j + 3 - 12) (omega arith)) in
+    let i : bitsValue (take 12 (seenBits s j)) ≡ bitsValue (view s 0 12) = rw (view-take s 0 12 (4 * j + 3) (omega arith)) in
+    let c : bitsValue (take 4 (drop 12 (seenBits s j))) ≡ bitsValue (view s 12 4) = rw (view-drop s 0 12 (4 * j + 3) (omega arith), view-take s 12 4 (4 * j + 3 - 12) (omega arith)) in
     λ k. record { identifier = i k; command = c k; count = count-seen s j a h k; acknowledge = a }
 
 pub gives : (s : List ℕ) (j : ℕ) (a : Bool) (h : Head) (r : Reading) → 7 ≤ j → j % 2 ≡ 1 → 25 + 5 * j ≤ length s → Below 2 s
@@ -323,7 +323,7 @@ module _ (s : List ℕ) where
       coded bs t e = rw (l, b, e)
 
 pub fill-next : (s room : List ℕ) (n k : ℕ) → k < n →
-    sets room k (bytesAt s (16 + 8 * k) (n - k)) ≡ sets (set room k (number (view s (16 + 8 * k) 8))) (k + 1) (bytesAt s (16 + 8 * (k + 1)) (n - (k + 1)))
+    sets room k (bytesAt s (16 + 8 * k) (n - k)) ≡ sets (set room k (bitsValue (view s (16 + 8 * k) 8))) (k + 1) (bytesAt s (16 + 8 * (k + 1)) (n - (k + 1)))
 unfolding bytesAt
 fill-next s room n k h =
     let e : n - k ≡ suc (n - (k + 1)) = omega arith in

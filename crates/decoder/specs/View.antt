@@ -7,7 +7,7 @@ use mathlib.Core.Bool.{Bool}
 use mathlib.Core.Path.{_≡_}
 use mathlib.Core.List.{List, [], _∷_}
 use lib.ListN.{length, drop, getD}
-use Rattle.line.specs.Bits.{number, Below}
+use Rattle.line.specs.Bits.{bitsValue, Below}
 use Rattle.decoder.specs.declared.Found.{Found}
 use Rattle.decoder.specs.declared.Found.the-variants.{At, Fault}
 use Rattle.decoder.specs.declared.Seen.{Seen}
@@ -23,7 +23,7 @@ view s i (suc n) = getD s (10 + i + i / 4) 0 ∷ view s (i + 1) n
 
 unfoldable pub bytesAt : List ℕ → ℕ → ℕ → List ℕ
 bytesAt s i zero = []
-bytesAt s i (suc n) = number (view s i 8) ∷ bytesAt s (i + 8) n
+bytesAt s i (suc n) = bitsValue (view s i 8) ∷ bytesAt s (i + 8) n
 
 -- the bits of j whole nibbles and three plain bits
 abbrev pub seenBits : List ℕ → ℕ → List ℕ

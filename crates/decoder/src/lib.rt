@@ -93,9 +93,9 @@ fn pair(s: &[u8], j: usize) -> Found
 }
 
 // The number that `width` bits from place i on write.
-fn number_at(s: &[u8], i: usize, width: usize) -> u16
+fn value_at(s: &[u8], i: usize, width: usize) -> u16
     requires { ⌜ (bits.Below 2 (now s)) × (width ≤ 15) × (10 + (i + width) + (i + width) / 4 ≤ length (now s)) ⌝ }
-    ensures { λ r. ⌜ r ≡ bits.number (view.view (now (s .entry)) i width) ⌝ }
+    ensures { λ r. ⌜ r ≡ bits.bitsValue (view.view (now (s .entry)) i width) ⌝ }
 {
     let mut x: u16 = 0;
     let mut k = 0;
@@ -112,7 +112,7 @@ fn remainder_of(s: &[u8], count: usize) -> u16
     requires { ⌜ 10 + count + count / 4 ≤ length (now s) ⌝ }
     ensures { λ r. ⌜ r ≡ check.remainder check.allOnes (view.view (now (s .entry)) 0 count) ⌝ }
 {
-    let mut r: u16 = 32767;
+    let mut r = frame_check::ALL_ONES;
     let mut i = 0;
     while i < count {
         r = frame_check::check_bit(r, s[10 + i + i / 4]);
@@ -127,7 +127,7 @@ fn right(s: &[u8], j: usize) -> bool
     ensures { λ r. ⌜ r ≡ rule.right (view.seenBits (now (s .entry)) j) ⌝ }
 {
     let covered = 4 * j - 12;
-    number_at(s, covered, 15) == 32767 - remainder_of(s, covered)
+    value_at(s, covered, 15) == frame_check::ALL_ONES - remainder_of(s, covered)
 }
 
 // An odd number of whole nibbles, 7 to 67.
@@ -165,8 +165,8 @@ fn head_of(s: &[u8], j: usize, acknowledge: bool) -> Head
     requires { ⌜ (bits.Below 2 (now s)) × (15 + 5 * j ≤ length (now s)) × (7 ≤ j) × (j ≤ 67) ⌝ }
     ensures { λ r. ⌜ r ≡ rule.headOf (rule.frameOf (view.seenBits (now (s .entry)) j) acknowledge) ⌝ }
 {
-    let identifier = number_at(s, 0, 12);
-    let command = number_at(s, 12, 4);
+    let identifier = value_at(s, 0, 12);
+    let command = value_at(s, 12, 4);
     Head {
         identifier,
         command: command as u8,
@@ -217,7 +217,8 @@ fn reading(s: &[u8]) -> Decoded
     ensures { λ r. ⌜ view.Gives (now (s .entry)) r (rule.reading 30 (now (s .entry))) ⌝ }
 {
     if levels(s) {
-        match expected(s, 0, &[0, 0, 0, 0, 1, 1, 1, 1, 0, 1], Refusal::Start) {
+        let start = line::start();
+        match expected(s, 0, &start, Refusal::Start) {
             Found::Fault(r) => Decoded::Refused(r),
             Found::At(_) => match plain_run(s, 0) {
                 Found::Fault(r) => Decoded::Refused(r),
@@ -236,7 +237,7 @@ fn fill(s: &[u8], room: &mut [u8], n: usize)
 {
     let mut k = 0;
     while k < n {
-        room[k] = number_at(s, 16 + 8 * k, 8) as u8;
+        room[k] = value_at(s, 16 + 8 * k, 8) as u8;
         k += 1;
     }
 }

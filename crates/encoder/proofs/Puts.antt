@@ -4,15 +4,14 @@ use mathlib.Core.Bool.{Bool, true}
 use mathlib.Core.List.{List, [], _∷_, _++_, append-assoc}
 use mathlib.Core.Path.{_≡_, ap, _∙_, sym}
 use native.Mathlib.Nat.{add-zero, div-one}
-use native.Mathlib.Numerals.{add-one, add-two, add-three, add-four}
 use native.Mathlib.Omega.{arith}
 use lib.ListN.{getD, set, length, drop, length-append, drop-of-length-le}
 use lib.Seq.{sets}
 use Rattle.line.specs.Bits.{bits}
 use Rattle.line.specs.LineCode.{lineCode, pattern}
 use Rattle.line.specs.Check.{check, remainder, allOnes}
-use Rattle.line.specs.Frame.{byteBits, covered, carried, start, endOfData, endOfFrame, acknowledgeSlots, slots}
-use Rattle.line.proofs.Laws.{next, header-bits, bits-length, bits-split, bits-mod, code-append, code-length, pattern-slots, remainder-append, covered-length}
+use Rattle.line.specs.Frame.{byteBits, covered, carried, start, closingSlots, slots}
+use Rattle.line.proofs.Laws.{next, header-bits, bits-length, bits-split, bits-mod, code-append, code-length, pattern-length, nibble-code, byteBits-length, remainder-append, covered-length}
 use Rattle.codec.specs.Encode.{given}
 
 pub sets-append : (l : List ℕ) (i : ℕ) (vs ws : List ℕ) → sets l i (vs ++ ws) ≡ sets (sets l i vs) (i + length vs) ws
@@ -34,17 +33,6 @@ put-next room slots at k h =
 pub put-end : (room slots : List ℕ) (i k : ℕ) → length slots ≤ k → sets room i (drop k slots) ≡ room
 put-end room slots i k h = rw (drop-of-length-le slots h)
 
-pub put-five : (l : List ℕ) (at p : ℕ) →
-    set (set (set (set (set l at (p / 16 % 2)) (at + 1) (p / 8 % 2)) (at + 2) (p / 4 % 2)) (at + 3) (p / 2 % 2)) (at + 4) (p % 2) ≡ sets l at (bits 5 p)
-unfolding bits
-put-five l at p = simp (add-one, add-two, add-three, add-four, div-one)
-
-pub put-nibble : (l : List ℕ) (at p n : ℕ) → n < 16 → p ≡ pattern (n % 16) → sets l at (bits 5 p) ≡ sets l at (lineCode (bits 4 n))
-put-nibble l at p n h e =
-    let m : n % 16 ≡ n = omega arith in
-    let d : bits 5 p ≡ lineCode (bits 4 n) = rw (e, m) (pattern-slots n) in
-    rw d
-
 pub put-three : (l : List ℕ) (at a b c : ℕ) → set (set (set l (at + 15) a) (at + 16) b) (at + 17) c ≡ sets l (at + 15) (a ∷ b ∷ c ∷ [])
 put-three l at a b c =
     let d : at + 16 ≡ suc (at + 15) = omega arith in
@@ -53,24 +41,17 @@ put-three l at a b c =
 
 -- ---- the parts by nibbles
 
-abbrev pub five : ℕ → List ℕ
-five n = lineCode (bits 4 n)
-
-pub five-length : (n : ℕ) → length (five n) ≡ 5
-five-length n = code-length (bits 4 n) ∙ rw bits-length
-
-nibble-first : (n : ℕ) (s : List ℕ) → lineCode (bits 4 n ++ s) ≡ five n ++ lineCode s
-nibble-first n s = code-append (bits 4 n) s (rw bits-length)
-
-pub byte-code : (b : ℕ) → lineCode (bits 8 b) ≡ five (b / 16) ++ five (b % 16)
-byte-code b = rw (bits-split 4 4, ← (bits-mod 4 b)) (nibble-first (b / 16) (bits 4 (b % 16)))
+pub byte-slots : (b : ℕ) → lineCode (bits 8 b) ≡ pattern (b / 16) ++ pattern (b % 16)
+unfolding pattern
+byte-slots b = rw (bits-split 4 4, ← (bits-mod 4 b)) (nibble-code (b / 16) (bits 4 (b % 16)))
 
 twelve : (i : ℕ) → bits 12 i ≡ bits 4 (i / 256) ++ (bits 4 (i / 16 % 16) ++ bits 4 (i % 16))
 twelve i = bits-split 4 8 i ∙ ap (λ (l : List ℕ). bits 4 (i / 256) ++ l) (bits-split 4 4 i ∙ rw (← (bits-mod 4 (i / 16)), ← (bits-mod 4 i)))
 
-pub header-code : (i c : ℕ) → lineCode (bits 12 i ++ bits 4 c) ≡ ((five (i / 256) ++ five (i / 16 % 16)) ++ five (i % 16)) ++ five c
+pub header-code : (i c : ℕ) → lineCode (bits 12 i ++ bits 4 c) ≡ ((pattern (i / 256) ++ pattern (i / 16 % 16)) ++ pattern (i % 16)) ++ pattern c
+unfolding pattern
 header-code i c =
-    rw (twelve, append-assoc (bits 4 (i / 256)), append-assoc (bits 4 (i / 16 % 16)), nibble-first (i / 256), nibble-first (i / 16 % 16), nibble-first (i % 16)) (simp append-assoc)
+    rw (twelve, append-assoc (bits 4 (i / 256)), append-assoc (bits 4 (i / 16 % 16)), nibble-code (i / 256), nibble-code (i / 16 % 16), nibble-code (i % 16)) (simp append-assoc)
 
 fifteen : (c : ℕ) → bits 15 c ≡ bits 4 (c / 2048) ++ (bits 4 (c / 128 % 16) ++ (bits 4 (c / 8 % 16) ++ bits 3 c))
 fifteen c =
@@ -81,9 +62,9 @@ three-code : (c : ℕ) → lineCode (bits 3 c) ≡ (c / 4 % 2) ∷ (c / 2 % 2) �
 unfolding lineCode bits
 three-code c = simp div-one
 
-pub check-code : (c : ℕ) → lineCode (bits 15 c) ≡ ((five (c / 2048) ++ five (c / 128 % 16)) ++ five (c / 8 % 16)) ++ ((c / 4 % 2) ∷ (c / 2 % 2) ∷ (c % 2) ∷ [])
+pub check-code : (c : ℕ) → lineCode (bits 15 c) ≡ ((pattern (c / 2048) ++ pattern (c / 128 % 16)) ++ pattern (c / 8 % 16)) ++ ((c / 4 % 2) ∷ (c / 2 % 2) ∷ (c % 2) ∷ [])
 check-code c =
-    rw (fifteen, nibble-first (c / 2048), nibble-first (c / 128 % 16), nibble-first (c / 8 % 16), three-code) (simp append-assoc)
+    rw (fifteen, nibble-code (c / 2048), nibble-code (c / 128 % 16), nibble-code (c / 8 % 16), three-code) (simp append-assoc)
 
 pub bytes-next : (room bs : List ℕ) (k : ℕ) → k < length bs →
     sets room (30 + 10 * k) (lineCode (byteBits (drop k bs)))
@@ -100,16 +81,16 @@ unfolding byteBits lineCode
 bytes-end room bs k h = rw (drop-of-length-le bs h)
 
 -- three nibbles, one behind the other
-pub three-nibbles : (r₀ r₁ r₂ r₃ : List ℕ) (at k m a b c : ℕ) → r₁ ≡ sets r₀ at (five a) → r₂ ≡ sets r₁ k (five b) → r₃ ≡ sets r₂ m (five c) → k ≡ at + 5 → m ≡ at + 10
-    → r₃ ≡ sets r₀ at ((five a ++ five b) ++ five c)
+pub three-nibbles : (r₀ r₁ r₂ r₃ : List ℕ) (at k m a b c : ℕ) → r₁ ≡ sets r₀ at (pattern a) → r₂ ≡ sets r₁ k (pattern b) → r₃ ≡ sets r₂ m (pattern c) → k ≡ at + 5 → m ≡ at + 10
+    → r₃ ≡ sets r₀ at ((pattern a ++ pattern b) ++ pattern c)
 three-nibbles r₀ r₁ r₂ r₃ at k m a b c p q r d e =
-    let u = five-length a in
-    let v = length-append (five a) (five b) in
-    let w = five-length b in
-    joined r₀ r₂ r₃ at m (five a ++ five b) (five c) (joined r₀ r₁ r₂ at k (five a) (five b) p q (omega arith)) r (omega arith)
+    let u = pattern-length a in
+    let v = length-append (pattern a) (pattern b) in
+    let w = pattern-length b in
+    joined r₀ r₂ r₃ at m (pattern a ++ pattern b) (pattern c) (joined r₀ r₁ r₂ at k (pattern a) (pattern b) p q (omega arith)) r (omega arith)
 
-pub three-long : (a b c : ℕ) → length ((five a ++ five b) ++ five c) ≡ 15
-three-long a b c = simp (length-append, five-length)
+pub three-long : (a b c : ℕ) → length ((pattern a ++ pattern b) ++ pattern c) ≡ 15
+three-long a b c = simp (length-append, pattern-length)
 
 -- ---- the check over identifier, command and data
 
@@ -140,11 +121,7 @@ header-long : (i c : ℕ) → length (header i c) ≡ 20
 header-long i c = code-length (bits 12 i ++ bits 4 c) ∙ simp (length-append, bits-length)
 
 bytes-long : (bs : List ℕ) → length (lineCode (byteBits bs)) ≡ 10 * length bs
-unfolding covered
-bytes-long bs =
-    let l : length (bits 12 0 ++ (bits 4 0 ++ byteBits bs)) ≡ 16 + 8 * length bs = covered-length (given 0 0 bs true) in
-    let m : length (byteBits bs) ≡ 8 * length bs = omega (arith, simp (length-append, bits-length) at l) in
-    code-length (byteBits bs) ∙ rw m (omega arith)
+bytes-long bs = code-length (byteBits bs) ∙ rw byteBits-length (omega arith)
 
 check-long : (c : ℕ) → length (lineCode (bits 15 c)) ≡ 18
 check-long c = code-length (bits 15 c) ∙ rw bits-length
@@ -155,7 +132,7 @@ pub whole-frame : (r₀ r₁ r₂ r₃ r₄ r₅ : List ℕ) (i c : ℕ) (bs : L
     → r₂ ≡ sets r₁ 10 (lineCode (bits 12 i ++ bits 4 c))
     → r₃ ≡ sets r₂ 30 (lineCode (byteBits bs))
     → r₄ ≡ sets r₃ (30 + n) (lineCode (bits 15 (check (covered (given i c bs a)))))
-    → r₅ ≡ sets r₄ (48 + n) (endOfData ++ (acknowledgeSlots a ++ endOfFrame))
+    → r₅ ≡ sets r₄ (48 + n) (closingSlots a)
     → r₅ ≡ sets r₀ 0 (slots (given i c bs a))
 unfolding slots start
 whole-frame r₀ r₁ r₂ r₃ r₄ r₅ i c bs a n e p q r s t =
@@ -169,7 +146,7 @@ whole-frame r₀ r₁ r₂ r₃ r₄ r₅ i c bs a n e p q r s t =
     let x = joined r₀ r₁ r₂ 0 10 start (header i c) p q (omega arith) in
     let y = joined r₀ r₂ r₃ 0 30 (start ++ header i c) (lineCode (byteBits bs)) x r (omega arith) in
     let z = joined r₀ r₃ r₄ 0 (30 + n) ((start ++ header i c) ++ lineCode (byteBits bs)) (lineCode (bits 15 k)) y s (omega arith) in
-    let g : (((start ++ header i c) ++ lineCode (byteBits bs)) ++ lineCode (bits 15 k)) ++ (endOfData ++ (acknowledgeSlots a ++ endOfFrame)) ≡ slots (given i c bs a) =
+    let g : (((start ++ header i c) ++ lineCode (byteBits bs)) ++ lineCode (bits 15 k)) ++ (closingSlots a) ≡ slots (given i c bs a) =
     rw (carried-code i c bs a) (simp append-assoc) in
-    joined r₀ r₄ r₅ 0 (48 + n) (((start ++ header i c) ++ lineCode (byteBits bs)) ++ lineCode (bits 15 k)) (endOfData ++ (acknowledgeSlots a ++ endOfFrame)) z t (omega arith)
+    joined r₀ r₄ r₅ 0 (48 + n) (((start ++ header i c) ++ lineCode (byteBits bs)) ++ lineCode (bits 15 k)) (closingSlots a) z t (omega arith)
     ∙ ap (λ (l : List ℕ). sets r₀ 0 l) g

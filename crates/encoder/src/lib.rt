@@ -26,15 +26,11 @@ fn put(room: &mut [u8], at: usize, slots: &[u8])
 
 // The five slots of a nibble.
 fn put_nibble(room: &mut [u8], at: usize, nibble: u8)
-    requires { ⌜ (at + 5 ≤ length (now room)) × (nibble < 16) ⌝ }
-    ensures { λ _. ⌜ now (room .exit) ≡ sets (now (room .entry)) at (code.lineCode (bits.bits 4 nibble)) ⌝ }
+    requires { ⌜ at + 5 ≤ length (now room) ⌝ }
+    ensures { λ _. ⌜ now (room .exit) ≡ sets (now (room .entry)) at (code.pattern nibble) ⌝ }
 {
-    let p = line::pattern(nibble);
-    room[at] = p / 16 % 2;
-    room[at + 1] = p / 8 % 2;
-    room[at + 2] = p / 4 % 2;
-    room[at + 3] = p / 2 % 2;
-    room[at + 4] = p % 2;
+    let slots = line::pattern(nibble);
+    put(room, at, &slots);
 }
 
 // Identifier and command.
@@ -83,7 +79,7 @@ fn put_check(room: &mut [u8], at: usize, check: u16)
 // End of data, acknowledge and end of frame.
 fn put_closing(room: &mut [u8], at: usize, acknowledge: bool)
     requires { ⌜ at + 12 ≤ length (now room) ⌝ }
-    ensures { λ _. ⌜ now (room .exit) ≡ sets (now (room .entry)) at (frame.endOfData ++ (frame.acknowledgeSlots acknowledge ++ frame.endOfFrame)) ⌝ }
+    ensures { λ _. ⌜ now (room .exit) ≡ sets (now (room .entry)) at (frame.closingSlots acknowledge) ⌝ }
 {
     if acknowledge {
         put(room, at, &[0, 0, 1, 0, 1, 1, 1, 1, 1, 1, 1, 1]);
@@ -93,13 +89,13 @@ fn put_closing(room: &mut [u8], at: usize, acknowledge: bool)
 }
 
 // The check over identifier, command and data.
-fn check_of(identifier: u16, command: u8, bytes: &[u8]) -> u16
+fn check_of_frame(identifier: u16, command: u8, bytes: &[u8]) -> u16
     requires { ⌜ (identifier < 4096) × (command < 16) ⌝ }
     ensures { λ r. ⌜ r ≡ check.check (bits.bits 12 identifier ++ (bits.bits 4 command ++ frame.byteBits (now (bytes .entry)))) ⌝ }
 {
-    let high = frame_check::check_byte(32767, (identifier / 16) as u8);
+    let high = frame_check::check_byte(frame_check::ALL_ONES, (identifier / 16) as u8);
     let low = frame_check::check_byte(high, (identifier % 16 * 16) as u8 + command);
-    32767 - frame_check::check_bytes(low, bytes)
+    frame_check::ALL_ONES - frame_check::check_bytes(low, bytes)
 }
 
 // All slots of a frame, in room that holds them.
@@ -108,10 +104,11 @@ fn put_frame(room: &mut [u8], identifier: u16, command: u8, bytes: &[u8], acknow
     ensures { λ _. ⌜ now (room .exit) ≡ sets (now (room .entry)) 0 (frame.slots (rule.given identifier command (now (bytes .entry)) acknowledge)) ⌝ }
 {
     let long = 10 * bytes.len();
-    put(room, 0, &[0, 0, 0, 0, 1, 1, 1, 1, 0, 1]);
+    let start = line::start();
+    put(room, 0, &start);
     put_header(room, identifier, command);
     put_bytes(room, bytes);
-    put_check(room, 30 + long, check_of(identifier, command, bytes));
+    put_check(room, 30 + long, check_of_frame(identifier, command, bytes));
     put_closing(room, 48 + long, acknowledge);
 }
 

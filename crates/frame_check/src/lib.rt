@@ -1,8 +1,12 @@
 // The check of a frame: the remainder, divided bit by bit (01, Frames on the line).
 ghost use mathlib.Core.Path.{_≡_};
+ghost use Prim.Native.Nat.{_<_};
 ghost use Rattle.line.specs.Bits as bits;
 ghost use Rattle.line.specs.Check as check;
 ghost use Rattle.line.specs.Frame as frame;
+
+// The remainder that division starts from, and what its complement is taken from.
+pub const ALL_ONES: u16 = 0x7FFF;
 
 // The remainder once one bit more is divided.
 pub fn check_bit(remainder: u16, bit: u8) -> u16
@@ -44,4 +48,12 @@ pub fn check_bytes(remainder: u16, bytes: &[u8]) -> u16
         i += 1;
     }
     r
+}
+
+// The check over a row of bytes.
+pub fn check_of(bytes: &[u8]) -> u16
+    ensures value { λ r. ⌜ r ≡ check.check (frame.byteBits (now (bytes .entry))) ⌝ }
+    ensures range { λ r. ⌜ r < 32768 ⌝ }
+{
+    ALL_ONES - check_bytes(ALL_ONES, bytes)
 }

@@ -1,7 +1,5 @@
 // The receiver's judgement of a sample, and the level that it drives (01, Receiving).
 ghost use mathlib.Core.Path.{_≡_};
-ghost use lib.ListN.{getD};
-ghost use Rattle.line.specs.Frame as frame;
 ghost use Rattle.rules.specs.Definitions.Hearing as rule;
 use registers::Code;
 use rules::Hearing;
@@ -12,24 +10,11 @@ use rules::Winner;
 
 // ---- start, acknowledge, end of frame
 
-// The start's slots: 0000 1111 0 1.
-fn start_level(at: u8) -> u8
-    ensures { λ r. ⌜ r ≡ getD frame.start at 1 ⌝ }
-{
-    if at < 4 {
-        return 0;
-    }
-    if at == 8 {
-        return 0;
-    }
-    1
-}
-
 // A start that breaks is CV.
 fn hear_start(at: u8, v: u8) -> Hearing
     ensures { λ h. ⌜ h ≡ rule.hearStart at v ⌝ }
 {
-    if v == start_level(at) {
+    if v == line::start_level(at as u16) {
         return Hearing::Follows;
     }
     Hearing::Fault(Code::CV)

@@ -1,7 +1,7 @@
 -- Numbers as rows of bits, most significant bit first (01, Frames on the line).
 --   pick    == the first of two values where the test holds, else the second
 --   bits    == the lowest bits of a number, as many as its first argument says
---   number  == the number that a row of bits writes
+--   bitsValue == the value of a row of bits
 --   Below   == every number of a list is below a bound: a row of bits is Below 2, a row of bytes Below 256
 use Prim.Native.Nat.{ℕ, zero, suc, _+_, _*_, _/_, _%_, _^_, _<_}
 use mathlib.Core.Bool.{Bool, true, false}
@@ -15,13 +15,13 @@ unfoldable pub bits : ℕ → ℕ → List ℕ
 bits zero x = []
 bits (suc w) x = (x / 2 ^ w % 2) ∷ bits w x
 
--- the bits of a row written behind those of a number
-unfoldable pub written : ℕ → List ℕ → ℕ
-written x [] = x
-written x (b ∷ bs) = written (x * 2 + b) bs
+-- the value of a row of bits behind a value x
+unfoldable pub bitsValueFrom : ℕ → List ℕ → ℕ
+bitsValueFrom x [] = x
+bitsValueFrom x (b ∷ bs) = bitsValueFrom (x * 2 + b) bs
 
-unfoldable pub number : List ℕ → ℕ
-number bs = written 0 bs
+unfoldable pub bitsValue : List ℕ → ℕ
+bitsValue bs = bitsValueFrom 0 bs
 
 pub data Below (m : ℕ) : List ℕ → Type 0 where
   none : Below m []

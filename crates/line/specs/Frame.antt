@@ -2,7 +2,8 @@
 --   Frame    == identifier, command, data bytes, and whether an acknowledge is present
 --   Fits     == the frame's numbers are in their ranges, with at most `longest` data bytes
 --   covered  == the bits that the check covers: identifier, command and data
---   slots    == the frame's slots, in the order of the table of parts
+--   slotsOf  == the slots of a row of coded bits and an acknowledge, in the order of the table of parts
+--   slots    == the frame's slots
 use Prim.Native.Nat.{ℕ, _+_, _*_, _≤_}
 use mathlib.Core.Bool.{Bool, true, false}
 use mathlib.Core.List.{List, [], _∷_, _++_}
@@ -30,7 +31,7 @@ byteBits (b ∷ bs) = bits 8 b ++ byteBits bs
 unfoldable pub covered : Frame → List ℕ
 covered f = bits 12 (f .identifier) ++ (bits 4 (f .command) ++ byteBits (f .bytes))
 
--- the bits that the line code carries: "identifier, command, data, check"
+-- the bits that the line code carries: identifier, command, data and check
 unfoldable pub carried : Frame → List ℕ
 carried f = covered f ++ bits 15 (check (covered f))
 
@@ -48,9 +49,15 @@ acknowledgeSlots false = 1 ∷ 1 ∷ []
 unfoldable pub endOfFrame : List ℕ
 endOfFrame = replicate 8 1
 
+-- what follows the check
+abbrev pub closingSlots : Bool → List ℕ
+closingSlots a = endOfData ++ (acknowledgeSlots a ++ endOfFrame)
+
+abbrev pub slotsOf : List ℕ → Bool → List ℕ
+slotsOf bs a = start ++ (lineCode bs ++ closingSlots a)
+
 unfoldable pub slots : Frame → List ℕ
-slots f =
-    start ++ (lineCode (carried f) ++ (endOfData ++ (acknowledgeSlots (f .acknowledge) ++ endOfFrame)))
+slots f = slotsOf (carried f) (f .acknowledge)
 
 -- "Whole frame: 60 + 10n slots"
 unfoldable pub size : ℕ → ℕ

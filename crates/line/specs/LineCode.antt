@@ -1,9 +1,9 @@
 -- The line code (01, Frames on the line; 000, enhanced Manchester code).
 --   lineCode  == the slots of a row of bits
---   pattern   == the five slots of a nibble, as a number of five bits, the first slot highest
+--   pattern   == the five slots of a nibble
 use Prim.Native.Nat.{ℕ, _-_}
 use mathlib.Core.List.{List, [], _∷_}
-use Rattle.line.specs.Bits.{bits, number}
+use Rattle.line.specs.Bits.{bits}
 
 -- "Three plain bits, then one bit sent as itself and its opposite, then three plain bits again"
 unfoldable pub lineCode : List ℕ → List ℕ
@@ -14,5 +14,5 @@ lineCode (a ∷ b ∷ c ∷ []) = a ∷ b ∷ c ∷ []
 lineCode (a ∷ b ∷ c ∷ d ∷ bs) = a ∷ b ∷ c ∷ d ∷ (1 - d) ∷ lineCode bs
 
 -- "a table gives the five slots of each of the 16 nibbles"
-unfoldable pub pattern : ℕ → ℕ
-pattern n = number (lineCode (bits 4 n))
+unfoldable pub pattern : ℕ → List ℕ
+pattern n = lineCode (bits 4 n)

@@ -1,7 +1,9 @@
 // Frames on the line: the line code's table, and where each slot of a frame stands. The check is crate frame_check.
 ghost use mathlib.Core.Path.{_≡_};
 ghost use Prim.Native.Nat.{_%_, _≤_};
+ghost use lib.ListN.{getD};
 ghost use Rattle.line.specs.LineCode as code;
+ghost use Rattle.line.specs.Frame as frame;
 ghost use Rattle.line.specs.Layout as layout;
 ghost use Rattle.line.specs.Claims as claims;
 
@@ -28,32 +30,52 @@ pub enum Half {
 // The most data bytes of a frame.
 pub const LONGEST: u8 = 30;
 
-// The five slots of each nibble, the first slot highest.
-const PATTERNS: [u8; 16] = [
-    0b00001,
-    0b00010,
-    0b00101,
-    0b00110,
-    0b01001,
-    0b01010,
-    0b01101,
-    0b01110,
-    0b10001,
-    0b10010,
-    0b10101,
-    0b10110,
-    0b11001,
-    0b11010,
-    0b11101,
-    0b11110,
+// The five slots of each nibble.
+const PATTERNS: [[u8; 5]; 16] = [
+    [0, 0, 0, 0, 1],
+    [0, 0, 0, 1, 0],
+    [0, 0, 1, 0, 1],
+    [0, 0, 1, 1, 0],
+    [0, 1, 0, 0, 1],
+    [0, 1, 0, 1, 0],
+    [0, 1, 1, 0, 1],
+    [0, 1, 1, 1, 0],
+    [1, 0, 0, 0, 1],
+    [1, 0, 0, 1, 0],
+    [1, 0, 1, 0, 1],
+    [1, 0, 1, 1, 0],
+    [1, 1, 0, 0, 1],
+    [1, 1, 0, 1, 0],
+    [1, 1, 1, 0, 1],
+    [1, 1, 1, 1, 0],
 ];
 
-// The pattern of a nibble: the low four bits of what is given.
-pub fn pattern(nibble: u8) -> u8
+// The start sequence.
+const START: [u8; 10] = [0, 0, 0, 0, 1, 1, 1, 1, 0, 1];
+
+// The five slots of a nibble: the low four bits of what is given.
+pub fn pattern(nibble: u8) -> [u8; 5]
     ensures { λ r. ⌜ r ≡ code.pattern (nibble % 16) ⌝ }
 {
-    let n = (nibble % 16) as usize;
-    PATTERNS[n]
+    let at = (nibble % 16) as usize;
+    PATTERNS[at]
+}
+
+// The ten slots of the start.
+pub fn start() -> [u8; 10]
+    ensures { λ r. ⌜ r ≡ frame.start ⌝ }
+{
+    START
+}
+
+// Slot k of the start; behind it the line is recessive.
+pub fn start_level(k: u16) -> u8
+    ensures { λ r. ⌜ r ≡ getD frame.start k 1 ⌝ }
+{
+    if k < 10 {
+        return START[k as usize];
+    }
+    1
 }
 
 // The part that slot k of a frame of n data bytes belongs to.

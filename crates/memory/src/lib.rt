@@ -92,21 +92,13 @@ fn copy(bytes: &mut [u8; 34], m: &[u8; 256], pointer: u8, n: u8)
     }
 }
 
-// The check over a row of bytes.
-fn check_of(bytes: &[u8]) -> u16
-    ensures value { λ r. ⌜ r ≡ check.check (frame.byteBits (now (bytes .entry))) ⌝ }
-    ensures range { λ r. ⌜ r < 32768 ⌝ }
-{
-    32767 - frame_check::check_bytes(32767, bytes)
-}
-
 // The check as two bytes behind the data, a zero bit behind it.
 fn sealed(bytes: [u8; 34], n: u8) -> [u8; 34]
     requires { ⌜ n ≤ 30 ⌝ }
     ensures { λ r. ⌜ r ≡ set (set bytes (n + 2) (check.check (frame.byteBits (take (n + 2) bytes)) / 128)) (n + 3) (check.check (frame.byteBits (take (n + 2) bytes)) % 128 * 2) ⌝ }
 {
     let end = n as usize + 2;
-    let check = check_of(&bytes[..end]);
+    let check = frame_check::check_of(&bytes[..end]);
     let mut t = bytes;
     t[end] = (check / 128) as u8;
     t[end + 1] = (check % 128 * 2) as u8;

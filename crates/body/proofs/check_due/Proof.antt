@@ -20,9 +20,9 @@ check-due-spec =
     let l : length (x .t1) ≡ 34 = good-length (eInt w8) 34 (x .t1) _ (c .before .before .good .0) in
     sym (length-take-le (x .n + 2) (x .t1) (omega arith)))
     (λ c κs. tt)
-    (λ c. rw (c .check-of .ensures))
+    (λ c. rw (c .check-of .ensures .0))
     (λ c. search needs)
     (λ c κs. tt)
     (λ c. let x = c .before .before .before .args in
     let l : length (x .t1) ≡ 34 = good-length (eInt w8) 34 (x .t1) _ (c .before .before .before .good .0) in
-    rw (c .check-of2 .ensures, take-all (x .n + 2) (x .t1) (omega arith))))
+    rw (c .check-of2 .ensures .0, take-all (x .n + 2) (x .t1) (omega arith))))

@@ -1,5 +1,6 @@
 use Rattle.line.specs.Frame.{size}
-use Rattle.line.proofs.Laws.{slots-length, level-at, pattern-slots}
+use Rattle.line.proofs.Laws.{slots-length, pattern-row, nibble-code}
+use Rattle.line.proofs.Levels.{level-at}
 use Rattle.codec.proofs.Exact.{codec}
 use Rattle.claims.specs.Claims.{Frames}
 use Rattle.claims.proofs.frame_claims.Statement.{statement}
@@ -15,7 +16,8 @@ frames =
       one = λ longest. codec longest .one;
       long = slots-length;
       level = level-at;
-      table = pattern-slots;
+      table = pattern-row;
+      nibbles = nibble-code;
     }
 
 pub frame-claims-spec : {M : Type 1} → statement M

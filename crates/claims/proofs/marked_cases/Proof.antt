@@ -1,7 +1,7 @@
 use mathlib.Core.Path.{refl, ap, _∙_}
 use lib.Bits.{and-zero-r}
 use Rattle.line.specs.Bits.{bits}
-use Rattle.line.specs.LineCode.{lineCode}
+use Rattle.line.specs.LineCode.{lineCode, pattern}
 use Rattle.line.specs.Frame.{size}
 use Rattle.line.proofs.Laws.{slots-length}
 use Rattle.rules.specs.Definitions.Channels.{base, matches}
@@ -13,7 +13,7 @@ use Rattle.claims.proofs.marked_cases.Statement.{statement}
 use Rattle.claims.proofs.marked_cases.Tie as tie
 
 marked : Marked
-unfolding lineCode bits size base matches mailboxAt statusByte fits number written groups groupsOf before faultOf refusalNumber
+unfolding pattern lineCode bits size base matches mailboxAt statusByte fits number written groups groupsOf before faultOf refusalNumber
 marked =
     record {
       p1 = refl;

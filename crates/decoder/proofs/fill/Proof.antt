@@ -5,7 +5,7 @@ use native.Mathlib.Omega.{arith}
 use lib.ListN.{length, length-set}
 use lib.Seq.{sets}
 use Rattle.decoder.specs.View.{bytesAt}
-use Rattle.decoder.proofs.Views.{number-view, fill-next, fill-end}
+use Rattle.decoder.proofs.Views.{value-view, fill-next, fill-end}
 use Rattle.decoder.proofs.fill.Statement.{statement}
 use Rattle.decoder.proofs.fill.Tie as tie
 
@@ -23,10 +23,10 @@ fill-spec =
     (λ c. omega arith)
     (λ c. omega arith)
     (λ c κs. (c .before .before .before .before .pre .0, omega arith, omega arith))
-    (λ c. let small = number-view (c .before .before .before .before .before .pre .0) (16 + 8 * c .before .before .loop .k) 8 in omega (arith, c .number-at .ensures))
+    (λ c. let small = value-view (c .before .before .before .before .before .pre .0) (16 + 8 * c .before .before .loop .k) 8 in omega (arith, c .value-at .ensures))
     (λ c. omega arith)
     (λ c. omega arith)
     (λ c. omega arith)
-    (λ c. (omega arith, simp length-set (c .before .before .loop .inv .1), c .before .before .loop .inv .2 ∙ fill-next _ _ _ _ (c .before .loop-test .taken) ∙ rw (← (c .number-at .ensures))))
+    (λ c. (omega arith, simp length-set (c .before .before .loop .inv .1), c .before .before .loop .inv .2 ∙ fill-next _ _ _ _ (c .before .loop-test .taken) ∙ rw (← (c .value-at .ensures))))
     (λ c. c .before .loop .inv .1)
     (λ c. sym (c .before .loop .inv .2 ∙ fill-end _ _ _ _ (c .loop-test .left))))

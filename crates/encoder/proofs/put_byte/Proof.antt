@@ -1,7 +1,9 @@
 use Prim.Native.Nat.{_+_, _/_, _%_}
 use borrow.Author.Needs.{needs}
 use native.Mathlib.Omega.{arith}
-use Rattle.encoder.proofs.Puts.{joined, five, five-length, byte-code}
+use Rattle.line.specs.LineCode.{pattern}
+use Rattle.line.proofs.Laws.{pattern-length}
+use Rattle.encoder.proofs.Puts.{joined, byte-slots}
 use Rattle.encoder.proofs.put_byte.Statement.{statement}
 use Rattle.encoder.proofs.put_byte.Tie as tie
 
@@ -13,5 +15,5 @@ put-byte-spec =
     (λ c κs. omega arith)
     (λ c. search needs)
     (λ c. let x = c .before .before .before .before .before .before .before .before .before .args in
-    let l = five-length (x .byte / 16) in
-    rw byte-code (joined _ _ _ (x .at) (x .at + 5) (five (x .byte / 16)) (five (x .byte % 16)) (c .before .before .before .before .before .before .put-nibble .ensures) (c .before .before .put-nibble2 .ensures) (omega arith))))
+    let l = pattern-length (x .byte / 16) in
+    rw byte-slots (joined _ _ _ (x .at) (x .at + 5) (pattern (x .byte / 16)) (pattern (x .byte % 16)) (c .before .before .before .before .before .before .put-nibble .ensures) (c .before .before .put-nibble2 .ensures) (omega arith))))

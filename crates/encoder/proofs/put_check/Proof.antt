@@ -4,7 +4,8 @@ use mathlib.Core.Path.{refl}
 use native.Mathlib.Omega.{arith}
 use mathlib.Core.List.{_++_, _∷_, []}
 use lib.ListN.{length-set}
-use Rattle.encoder.proofs.Puts.{joined, five, three-nibbles, three-long, put-three, check-code}
+use Rattle.line.specs.LineCode.{pattern}
+use Rattle.encoder.proofs.Puts.{joined, three-nibbles, three-long, put-three, check-code}
 use Rattle.encoder.proofs.put_check.Statement.{statement}
 use Rattle.encoder.proofs.put_check.Tie as tie
 
@@ -33,6 +34,6 @@ put-check-spec =
     let k = x .check in
     let l = three-long (k / 2048) (k / 128 % 16) (k / 8 % 16) in
     rw check-code
-    (joined _ _ _ (x .at) (x .at + 15) ((five (k / 2048) ++ five (k / 128 % 16)) ++ five (k / 8 % 16)) ((k / 4 % 2) ∷ (k / 2 % 2) ∷ (k % 2) ∷ [])
+    (joined _ _ _ (x .at) (x .at + 15) ((pattern (k / 2048) ++ pattern (k / 128 % 16)) ++ pattern (k / 8 % 16)) ((k / 4 % 2) ∷ (k / 2 % 2) ∷ (k % 2) ∷ [])
     (three-nibbles _ _ _ _ (x .at) (x .at + 5) (x .at + 10) (k / 2048) (k / 128 % 16) (k / 8 % 16) (c .before .before .before .before .before .before .before .before .before .before .put-nibble .ensures) (c .before .before .before .before .before .before .put-nibble2 .ensures) (c .before .before .put-nibble3 .ensures) refl refl)
     (put-three (c .before .before .put-nibble3 .last .0) (x .at) (k / 4 % 2) (k / 2 % 2) (k % 2)) (omega arith))))

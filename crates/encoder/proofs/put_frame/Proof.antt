@@ -14,16 +14,17 @@ unfolding start covered
 put-frame-spec =
     tie.close (tie.spec
     (λ c. omega arith)
+    (λ c κs. tt)
     (λ c. search needs)
-    (λ c κs. omega arith)
+    (λ c κs. rw (c .before .before .start .ensures) (omega arith))
     (λ c κs. omega arith)
     (λ c κs. omega arith)
     (λ c. omega arith)
     (λ c κs. omega arith)
-    (λ c κs. (omega arith, rw (c .check-of .ensures) (check-below _)))
+    (λ c κs. (omega arith, rw (c .check-of-frame .ensures) (check-below _)))
     (λ c. omega arith)
     (λ c κs. omega arith)
     (λ c. search needs)
-    (λ c. let x = c .before .before .before .before .before .before .before .before .before .before .before .before .before .before .before .before .before .before .before .before .before .before .before .before .args in
+    (λ c. let x = c .before .before .before .before .before .before .before .before .before .before .before .before .before .before .before .before .before .before .before .before .before .before .before .before .before .args in
     whole-frame _ _ _ _ _ _ (x .identifier) (x .command) (x .bytes .now) (x .acknowledge) (10 * length (x .bytes .now)) refl
-    (c .before .before .before .before .before .before .before .before .before .before .before .before .before .before .before .before .before .before .before .put .ensures) (c .before .before .before .before .before .before .before .before .before .before .before .before .before .before .before .put-header .ensures) (c .before .before .before .before .before .before .before .before .before .before .before .put-bytes .ensures) (rw (c .before .before .before .before .before .before .before .check-of .ensures) at (c .before .before .before .before .before .before .put-check .ensures)) (c .before .before .put-closing .ensures)))
+    (rw (c .before .before .before .before .before .before .before .before .before .before .before .before .before .before .before .before .before .before .before .before .before .before .start .ensures) at (c .before .before .before .before .before .before .before .before .before .before .before .before .before .before .before .before .before .before .before .put .ensures)) (c .before .before .before .before .before .before .before .before .before .before .before .before .before .before .before .put-header .ensures) (c .before .before .before .before .before .before .before .before .before .before .before .put-bytes .ensures) (rw (c .before .before .before .before .before .before .before .check-of-frame .ensures) at (c .before .before .before .before .before .before .put-check .ensures)) (c .before .before .put-closing .ensures)))

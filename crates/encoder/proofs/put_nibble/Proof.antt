@@ -1,7 +1,7 @@
-use mathlib.Core.Path.{_∙_}
+use mathlib.Core.Path.{_∙_, sym}
 use native.Mathlib.Omega.{arith}
-use lib.ListN.{length-set}
-use Rattle.encoder.proofs.Puts.{put-five, put-nibble}
+use borrow.Author.Needs.{needs}
+use Rattle.line.proofs.Laws.{pattern-length, pattern-mod}
 use Rattle.encoder.proofs.put_nibble.Statement.{statement}
 use Rattle.encoder.proofs.put_nibble.Tie as tie
 
@@ -9,14 +9,7 @@ pub put-nibble-spec : {M : Type 1} → statement M
 put-nibble-spec =
     tie.close (tie.spec
     (λ c κs. tt)
-    (λ c. omega arith)
-    (λ c. omega arith)
-    (λ c. simp length-set (omega arith))
-    (λ c. omega arith)
-    (λ c. simp length-set (omega arith))
-    (λ c. omega arith)
-    (λ c. simp length-set (omega arith))
-    (λ c. omega arith)
-    (λ c. simp length-set (omega arith))
-    (λ c. simp length-set)
-    (λ c. let x = c .before .before .args in put-five (x .room .now) (x .at) (c .pattern .result) ∙ put-nibble (x .room .now) (x .at) (c .pattern .result) (x .nibble) (omega arith) (c .pattern .ensures)))
+    (λ c. search needs)
+    (λ c κs. rw (c .before .before .pattern .ensures, pattern-length) (omega arith))
+    (λ c. search needs)
+    (λ c. rw (c .before .before .before .before .before .pattern .ensures, pattern-mod) at (c .before .before .put .ensures)))

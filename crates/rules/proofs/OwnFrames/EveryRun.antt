@@ -12,7 +12,8 @@ use lib.ListN.{length, getD, set}
 use lib.Seq.{getD-set-other}
 use Rattle.line.specs.Bits.{pick}
 use Rattle.line.specs.Frame.{Frame, Fits, slots, acknowledgeSlots}
-use Rattle.line.proofs.Laws.{picked, level-at}
+use Rattle.line.proofs.Laws.{picked}
+use Rattle.line.proofs.Levels.{level-at}
 use Rattle.line.specs.Layout.{partOf, levelIn, levelOf}
 use Rattle.line.specs.declared.Part.the-variants as part
 use Rattle.rules.specs.Definitions.Registers.{command, transmitControl, autonomous, asksRearbitration}

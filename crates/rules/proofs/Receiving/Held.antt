@@ -6,10 +6,10 @@ use mathlib.Core.Path.{_≡_, refl, ap, _∙_, sym}
 use native.Mathlib.Omega.{arith}
 use lib.ListN.{length, getD, take, drop, replicate, length-append, length-drop, length-replicate, take-append-drop}
 use lib.Seq.{take-at, drop-at, take-append-add, length-take-le, drop-cons}
-use Rattle.line.specs.Bits.{bits, number, Below, none, one}
+use Rattle.line.specs.Bits.{bits, bitsValue, Below, none, one}
 use Rattle.line.specs.Check.{check}
 use Rattle.line.specs.Frame.{Frame, Fits, byteBits, covered, carried}
-use Rattle.line.proofs.Laws.{bits-length, bits-split, bits-mod, number-bits, check-below, byteBits-append, covered-length, carried-length, header-bits}
+use Rattle.line.proofs.Laws.{bits-length, bits-split, bits-mod, value-bits, check-below, byteBits-append, covered-length, carried-length, header-bits, byteBits-length}
 use Rattle.rules.specs.Definitions.Longest.{capacity}
 use Rattle.rules.specs.Definitions.Mailbox.{codedBytes}
 use Rattle.rules.specs.Definitions.Reception.{dataCount}
@@ -17,7 +17,7 @@ use Rattle.rules.specs.Definitions.Hearing.{checkReceived}
 use Rattle.rules.proofs.Ranges.Bytes.{at-below, take-below, drop-below, zeros-below}
 use Rattle.rules.specs.Statements.Valid.{high, low}
 use Rattle.rules.proofs.Sending.Frames.{coded-bits}
-use Rattle.rules.proofs.Receiving.Rows.{take-half, cons-eq, bytes-length, Padded, zeros-bits}
+use Rattle.rules.proofs.Receiving.Rows.{take-half, cons-eq, Padded, zeros-bits}
 use Rattle.rules.proofs.Receiving.Invariant.{frameHeld}
 use Rattle.rules.specs.declared.Reception.{Reception}
 
@@ -127,7 +127,7 @@ pub bits-same : (w x y : ℕ) (s t : List ℕ) → x < 2 ^ w → y < 2 ^ w → b
 bits-same w x y s t h g e =
     let b : bits w x ≡ bits w y = sym (take-at (bits w x) s w (bits-length w x)) ∙ ap (λ (l : List ℕ). take w l) e ∙ take-at (bits w y) t w (bits-length w y) in
     let d : s ≡ t = sym (drop-at (bits w x) s w (bits-length w x)) ∙ ap (λ (l : List ℕ). drop w l) e ∙ drop-at (bits w y) t w (bits-length w y) in
-    (sym (number-bits w x h) ∙ ap number b ∙ number-bits w y g, d)
+    (sym (value-bits w x h) ∙ ap bitsValue b ∙ value-bits w y g, d)
 
 module _ {longest : ℕ} (f : Frame) (fits : Fits longest f) where
   pub carried-header : carried f ≡ bits 8 (high f) ++ (bits 8 (low f) ++ (byteBits (f .bytes) ++ bits 15 (check (covered f))))
@@ -165,7 +165,7 @@ module _ {longest : ℕ} (f : Frame) (fits : Fits longest f) where
       let n : ℕ = 16 + 8 * length (f .bytes) in
       let q : p ≡ covered f = sym (take-at p (bits 15 c) n l) ∙ ap (λ (t : List ℕ). take n t) (sym e) ∙ take-at (covered f) (bits 15 (check (covered f))) n m in
       let d : bits 15 c ≡ bits 15 (check (covered f)) = sym (drop-at p (bits 15 c) n l) ∙ ap (λ (t : List ℕ). drop n t) (sym e) ∙ drop-at (covered f) (bits 15 (check (covered f))) n m in
-      let k : c ≡ check (covered f) = sym (number-bits 15 c h) ∙ ap number d ∙ number-bits 15 (check (covered f)) (check-below (covered f)) in
+      let k : c ≡ check (covered f) = sym (value-bits 15 c h) ∙ ap bitsValue d ∙ value-bits 15 (check (covered f)) (check-below (covered f)) in
       (q, k ∙ ap check (sym q))
 
 -- ---- the bytes of a frame
@@ -173,8 +173,8 @@ module _ {longest : ℕ} (f : Frame) (fits : Fits longest f) where
 pub bytes-same : (s t : List ℕ) → Below 256 s → Below 256 t → byteBits s ≡ byteBits t → s ≡ t
 unfolding byteBits
 bytes-same [] [] b d e = refl
-bytes-same [] (y ∷ t) b d e = absurd (omega (arith, ap length e, bytes-length (y ∷ t)))
-bytes-same (x ∷ s) [] b d e = absurd (omega (arith, ap length e, bytes-length (x ∷ s)))
+bytes-same [] (y ∷ t) b d e = absurd (omega (arith, ap length e, byteBits-length (y ∷ t)))
+bytes-same (x ∷ s) [] b d e = absurd (omega (arith, ap length e, byteBits-length (x ∷ s)))
 bytes-same (x ∷ s) (y ∷ t) (one h b) (one g d) e =
     let k = bits-same 8 x y (byteBits s) (byteBits t) h g e in
     cons-eq (k .0) (bytes-same s t b d (k .1))
@@ -205,7 +205,7 @@ module _ (f : Frame) (fits : Fits capacity f) where
       let n : ℕ = length (f .bytes) in
       let m = fits .size in
       let cl = carried-length f in
-      let bl = bytes-length bytes in
+      let bl = byteBits-length bytes in
       let long : length (byteBits bytes) ≡ 32 + 8 * n + p .0 = ap length (p .1) ∙ rw (length-append (carried f ++ (0 ∷ [])), length-append (carried f), length-replicate) (omega arith) in
       let z : p .0 ≡ 8 * (capacity - n) = omega arith in
       let e : byteBits (codedBytes f) ≡ carried f ++ (0 ∷ replicate (8 * (capacity - n)) 0) = coded-bits f fits ∙ ap (λ (t : List ℕ). carried f ++ (0 ∷ t)) (zeros-bits (capacity - n)) in

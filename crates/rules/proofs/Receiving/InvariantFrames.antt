@@ -10,7 +10,7 @@ use Rattle.line.specs.Bits.{bits}
 use Rattle.line.specs.LineCode.{lineCode}
 use Rattle.line.specs.Check.{check}
 use Rattle.line.specs.Frame.{Frame, Fits, byteBits, covered, carried, start, endOfData, endOfFrame, acknowledgeSlots, slots}
-use Rattle.line.proofs.Laws.{bits-length, code-length, carried-length}
+use Rattle.line.proofs.Laws.{bits-length, code-length, carried-length, acknowledge-length}
 use Rattle.rules.specs.Definitions.Reception.{dataCount}
 use Rattle.rules.proofs.Ranges.Bytes.{at-below}
 use Rattle.rules.specs.Statements.Valid.{high, low}
@@ -20,11 +20,6 @@ use Rattle.rules.proofs.Receiving.Held.{header-held, held-high, held-lo
 use Rattle.rules.specs.declared.Reception.{Reception}
 
 -- ---- how many samples
-
-pub acknowledge-length : (a : Bool) → length (acknowledgeSlots a) ≡ 2
-unfolding acknowledgeSlots
-acknowledge-length true = refl
-acknowledge-length false = refl
 
 start-length : length start ≡ 10
 unfolding start

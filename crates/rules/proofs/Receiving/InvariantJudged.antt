@@ -12,7 +12,7 @@ use Rattle.line.specs.Bits.{pick, bits, Below}
 use Rattle.line.specs.LineCode.{lineCode}
 use Rattle.line.specs.Check.{check}
 use Rattle.line.specs.Frame.{Frame, Fits, byteBits, carried, start, endOfData, endOfFrame, acknowledgeSlots, slots}
-use Rattle.line.proofs.Laws.{bits-length, carried-length, picked}
+use Rattle.line.proofs.Laws.{bits-length, carried-length, picked, byteBits-length, acknowledge-length}
 use Rattle.rules.specs.Definitions.Registers.{both, FV, CV}
 use Rattle.rules.specs.Definitions.Channels.{acknowledgeAsked}
 use Rattle.rules.specs.Definitions.Reception.{dataCount}
@@ -21,9 +21,9 @@ use Rattle.rules.specs.Definitions.Hearing.{whole, replyRequest, checkRe
 use Rattle.rules.proofs.Ranges.Bytes.{at-below}
 use Rattle.rules.specs.Statements.Valid.{Valid, low, owes}
 use Rattle.rules.proofs.Receiving.Invariant.{InStart, InBody, InAcknowledge, InEnd}
-use Rattle.rules.proofs.Receiving.Rows.{nibbles-length, cons-head, cons-tail, cons-eq, Opens, bytes-length}
+use Rattle.rules.proofs.Receiving.Rows.{nibbles-length, cons-head, cons-tail, cons-eq, Opens}
 use Rattle.rules.proofs.Receiving.Held.{row-held, check-same}
-use Rattle.rules.proofs.Receiving.InvariantFrames.{start-long, acknowledge-length, closing, closing-length, body-opens, Same, acknowledge-same, end-same, body-header}
+use Rattle.rules.proofs.Receiving.InvariantFrames.{start-long, closing, closing-length, body-opens, Same, acknowledge-same, end-same, body-header}
 use Rattle.rules.specs.declared.Reception.{Reception}
 use Rattle.rules.specs.declared.Hearing.{Hearing}
 use Rattle.rules.specs.declared.Hearing.the-variants.{Follows, Fault}
@@ -97,7 +97,7 @@ module _ {longest : ℕ} (f : Frame) (fits : Fits longest f) (request : replyReq
       let h = body-header f fits r s t (omega arith) x e in
       let row = row-held (r .bytes) n (t .long) (t .below) (omega (arith, fits .size, t .most)) (4 * r .nibbles) (r .bits / 2) (omega arith) in
       let p : List ℕ = byteBits (take (n + 2) (r .bytes)) in
-      let pl : length p ≡ 16 + 8 * n = bytes-length (take (n + 2) (r .bytes)) ∙ rw (length-take-le (n + 2) (r .bytes) (omega (arith, t .long, fits .size, t .most))) (omega arith) in
+      let pl : length p ≡ 16 + 8 * n = byteBits-length (take (n + 2) (r .bytes)) ∙ rw (length-take-le (n + 2) (r .bytes) (omega (arith, t .long, fits .size, t .most))) (omega arith) in
       let k = check-same f fits p (checkReceived (r .bytes) n (r .bits / 2)) (received-below (r .bytes) n (r .bits / 2) (t .below)) pl (c ∙ row) in
       rw (w .0, w .1, h .1, no-data (replyRequest (low f)) request, eq-eqb (checkReceived (r .bytes) n (r .bits / 2)) (check p) (k .1))
     where

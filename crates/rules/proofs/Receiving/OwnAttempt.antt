@@ -10,7 +10,8 @@ use lib.Dec.{eqb, ltb}
 use lib.ListN.{length, getD, take, List·getD-append}
 use Rattle.line.specs.LineCode.{lineCode}
 use Rattle.line.specs.Frame.{Frame, Fits, byteBits, start, endOfData, acknowledgeSlots, endOfFrame, carried, size}
-use Rattle.line.proofs.Laws.{picked, level-at}
+use Rattle.line.proofs.Laws.{picked}
+use Rattle.line.proofs.Levels.{level-at}
 use Rattle.line.specs.Layout.{partOf, halfOf, inFive, bitOf, codedLevel, levelIn, levelOf}
 use Rattle.line.specs.declared.Part.{Part}
 use Rattle.line.specs.declared.Half.{Half}

@@ -10,7 +10,7 @@ use lib.Seq.{take-at, length-take-le, set-split, split-at}
 use Rattle.line.specs.Bits.{bits, Below}
 use Rattle.line.specs.LineCode.{lineCode}
 use Rattle.line.specs.Frame.{byteBits}
-use Rattle.line.proofs.Laws.{bits-length, bits-split, bits-mod, code-length, byteBits-append, picked}
+use Rattle.line.proofs.Laws.{bits-length, bits-split, bits-mod, code-length, byteBits-append, picked, byteBits-length}
 use Rattle.rules.specs.Definitions.Longest.{capacity, mostNibbles}
 use Rattle.rules.specs.Definitions.Reception.{withNibble}
 use Rattle.rules.proofs.Ranges.Bytes.{at-below, set-below}
@@ -32,14 +32,9 @@ cancel (x ∷ p) e = cancel p (cons-tail e)
 
 -- ---- bytes as bits
 
-pub bytes-length : (s : List ℕ) → length (byteBits s) ≡ 8 * length s
-unfolding byteBits
-bytes-length [] = refl
-bytes-length (b ∷ s) = let k = bytes-length s in rw (length-append (bits 8 b) (byteBits s), bits-length 8 b) (omega arith)
-
 -- so many whole nibbles
 pub nibbles-length : (bytes : List ℕ) (j : ℕ) → length bytes ≡ capacity + 4 → j ≤ mostNibbles capacity → length (take (4 * j) (byteBits bytes)) ≡ 4 * j
-nibbles-length bytes j e h = length-take-le (4 * j) (byteBits bytes) (omega (arith, bytes-length bytes))
+nibbles-length bytes j e h = length-take-le (4 * j) (byteBits bytes) (omega (arith, byteBits-length bytes))
 
 pub nibbles-slots : (bytes : List ℕ) (j : ℕ) → length bytes ≡ capacity + 4 → j ≤ mostNibbles capacity → length (lineCode (take (4 * j) (byteBits bytes))) ≡ 5 * j
 nibbles-slots bytes j e h = rw (code-length, nibbles-length bytes j e h) (omega arith)
@@ -52,19 +47,19 @@ module _ (p : List ℕ) (b : ℕ) (q : List ℕ) where
 
   pub take-half : (m : ℕ) → m ≡ 8 * length p + 4 → take m (byteBits (p ++ (b ∷ q))) ≡ byteBits p ++ bits 4 (b / 16)
   take-half m e =
-      let l : length (byteBits p ++ bits 4 (b / 16)) ≡ m = rw (length-append (byteBits p), bits-length, bytes-length) (omega arith) in
+      let l : length (byteBits p ++ bits 4 (b / 16)) ≡ m = rw (length-append (byteBits p), bits-length, byteBits-length) (omega arith) in
       rw (cut-bits, ← (append-assoc (byteBits p) (bits 4 (b / 16)) (bits 4 b ++ byteBits q))) (take-at (byteBits p ++ bits 4 (b / 16)) (bits 4 b ++ byteBits q) m l)
 
   pub take-byte : (m : ℕ) → m ≡ 8 * length p + 8 → take m (byteBits (p ++ (b ∷ q))) ≡ byteBits p ++ (bits 4 (b / 16) ++ bits 4 b)
   take-byte m e =
       let w : List ℕ = byteBits p ++ (bits 4 (b / 16) ++ bits 4 b) in
-      let l : length w ≡ m = rw (length-append (byteBits p), length-append (bits 4 (b / 16)), bits-length, bits-length, bytes-length) (omega arith) in
+      let l : length w ≡ m = rw (length-append (byteBits p), length-append (bits 4 (b / 16)), bits-length, bits-length, byteBits-length) (omega arith) in
       let g : byteBits (p ++ (b ∷ q)) ≡ w ++ byteBits q = cut-bits ∙ simp append-assoc in
       rw g (take-at w (byteBits q) m l)
 
 pub take-bytes : (n : ℕ) (s : List ℕ) (m : ℕ) → m ≡ 8 * n → n ≤ length s → take m (byteBits s) ≡ byteBits (take n s)
 take-bytes n s m e h =
-    let l : length (byteBits (take n s)) ≡ m = rw (bytes-length, length-take-le n s h) (sym e) in
+    let l : length (byteBits (take n s)) ≡ m = rw (byteBits-length, length-take-le n s h) (sym e) in
     let g : byteBits s ≡ byteBits (take n s) ++ byteBits (drop n s) = ap byteBits (sym (take-append-drop n s)) ∙ byteBits-append (take n s) (drop n s) in
     rw g (take-at (byteBits (take n s)) (byteBits (drop n s)) m l)
 

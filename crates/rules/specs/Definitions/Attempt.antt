@@ -3,12 +3,11 @@
 --   advance == the effort after it        exhausted == error R + 1
 use Prim.Native.Nat.{ℕ, _+_, _*_, _%_}
 use mathlib.Core.Bool.{Bool, true, false}
-use mathlib.Core.List.{List, _++_}
+use mathlib.Core.List.{List}
 use lib.Dec.{eqb, ltb}
 use lib.ListN.{getD, take}
 use Rattle.line.specs.Bits.{pick}
-use Rattle.line.specs.LineCode.{lineCode}
-use Rattle.line.specs.Frame.{start, endOfData, endOfFrame, acknowledgeSlots, byteBits, size}
+use Rattle.line.specs.Frame.{slotsOf, byteBits, size}
 use Rattle.line.specs.Layout.{partOf, halfOf}
 use Rattle.line.specs.declared.Part.{Part}
 use Rattle.line.specs.declared.Part.the-variants.{Start, Identifier, Command, Data, Check, EndOfData, Acknowledge, EndOfFrame, After}
@@ -88,8 +87,7 @@ drivesFrame p = isDriving (p .stage)
 -- ---- the fixed frame: "both acknowledge slots recessive". A count above 30, which no state in range has, is taken mod 31
 
 unfoldable pub sentSlots : Coded → List ℕ
-sentSlots x =
-    start ++ (lineCode (take (31 + 8 * (x .n % 31)) (byteBits (x .bytes))) ++ (endOfData ++ (acknowledgeSlots false ++ endOfFrame)))
+sentSlots x = slotsOf (take (31 + 8 * (x .n % 31)) (byteBits (x .bytes))) false
 
 unfoldable pub levelAt : Coded → ℕ → ℕ
 levelAt x k = getD (sentSlots x) k 1

@@ -2,8 +2,8 @@ use native.Mathlib.Omega.{arith}
 use Rattle.line.specs.Check.{check, allOnes}
 use Rattle.line.specs.Frame.{byteBits}
 use Rattle.line.proofs.Laws.{remainder-below}
-use Rattle.memory.proofs.check_of.Statement.{statement}
-use Rattle.memory.proofs.check_of.Tie as tie
+use Rattle.frame_check.proofs.check_of.Statement.{statement}
+use Rattle.frame_check.proofs.check_of.Tie as tie
 
 pub check-of-spec : {M : Type 1} → statement M
 unfolding check allOnes

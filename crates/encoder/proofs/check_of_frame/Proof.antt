@@ -5,11 +5,11 @@ use Rattle.line.specs.Bits.{bits}
 use Rattle.line.specs.Frame.{byteBits}
 use Rattle.line.proofs.Laws.{remainder-below}
 use Rattle.encoder.proofs.Puts.{check-bits}
-use Rattle.encoder.proofs.check_of.Statement.{statement}
-use Rattle.encoder.proofs.check_of.Tie as tie
+use Rattle.encoder.proofs.check_of_frame.Statement.{statement}
+use Rattle.encoder.proofs.check_of_frame.Tie as tie
 
-pub check-of-spec : {M : Type 1} → statement M
-check-of-spec =
+pub check-of-frame-spec : {M : Type 1} → statement M
+check-of-frame-spec =
     tie.close (tie.spec
     (λ c. omega arith)
     (λ c κs. tt)
