@@ -21,13 +21,10 @@ fn most_nibbles(longest: u8) -> u16
 fn whole(nibbles: u8, longest: u8) -> bool
     ensures { λ r. ⌜ r ≡ rule.whole nibbles longest ⌝ }
 {
-    if nibbles < 7 {
-        return false;
+    if nibbles % 2 == 1 {
+        return (7 <= nibbles) & (nibbles as u16 <= most_nibbles(longest));
     }
-    if nibbles % 2 == 0 {
-        return false;
-    }
-    nibbles as u16 <= most_nibbles(longest)
+    false
 }
 
 // Whether the command is a reply request: EXT 1, R/W 1, RTR 1.

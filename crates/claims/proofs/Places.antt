@@ -5,7 +5,7 @@ use mathlib.Core.List.{List, [], _∷_}
 use mathlib.Core.Path.{_≡_, refl, sym, _∙_, ap}
 use native.Mathlib.Nat.{zero-add}
 use native.Mathlib.Omega.{arith}
-use borrow.Author.Tests.{lt-ltb, le-ltb, eqb-true, eqb-false}
+use borrow.Author.Tests.{le-leb, lt-leb, eqb-true, eqb-false}
 use lib.Dec.{eqb}
 use lib.ListN.{length, getD, set, replicate, length-set}
 use lib.Seq.{getD-set-same, getD-set-other}
@@ -99,11 +99,11 @@ module _ (m : List ℕ) (w : Winner) (f : Frame) where
 
   pub too-long : w .matched ≡ true → w .length ≤ length (f .bytes) → received m w f ≡ markedCher m (w .channel)
   unfolding received
-  too-long e h = rw (e, le-ltb _ _ h)
+  too-long e h = rw (e, lt-leb (length (f .bytes) + 1) (w .length) (omega arith))
 
   received-fits : w .matched ≡ true → length (f .bytes) + 1 ≤ w .length → received m w f ≡ storedFrame m w f
   unfolding received
-  received-fits e h = rw (e, lt-ltb (length (f .bytes)) (w .length) (omega arith))
+  received-fits e h = rw (e, le-leb (length (f .bytes) + 1) (w .length) (omega arith))
 
   -- the channel's own bytes are not the mailbox's
   channel-bytes : (x : List ℕ) (a : ℕ) → (a ≡ base (w .channel) → ⊥) → (a ≡ base (w .channel) + 1 → ⊥) → (a ≡ base (w .channel) + 3 → ⊥)

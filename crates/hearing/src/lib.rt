@@ -33,14 +33,10 @@ fn acknowledges(r: Reception) -> bool
 {
     let w = r.winner;
     let b = r.bytes;
-    let no_acknowledge = w.no_acknowledge;
     let asked = channels::acknowledge_asked(b[1]);
     if w.matched {
-        if no_acknowledge {
-            return false;
-        }
         if fits(w, reception::data_count(r.nibbles)) {
-            return asked;
+            return (asked) & (!w.no_acknowledge);
         }
         return false;
     }

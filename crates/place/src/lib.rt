@@ -38,11 +38,8 @@ fn behind(r: Reception, whole: u8) -> bool
     ensures { λ b. ⌜ b ≡ rule.behind r whole ⌝ }
 {
     let p = r.place;
-    if p.at == 0 {
-        if r.nibbles == whole {
-            return in_body(p);
-        }
-        return false;
+    if in_body(p) {
+        return (r.nibbles == whole) & (p.at == 0);
     }
     false
 }

@@ -9,9 +9,8 @@ acknowledges-spec =
     tie.close (tie.spec
     (λ c. search needs)
     (λ c κs. tt)
-    (λ c. simp (c .if2 .taken, c .before .if1 .taken))
     (λ c κs. tt)
     (λ c κs. tt)
-    (λ c. simp (c .if3 .taken, c .before .before .before .if2 .left, c .before .before .before .before .if1 .taken, ← (c .before .fits2 .ensures), ← (c .before .before .data-count .ensures), ← (c .before .before .before .before .before .acknowledge-asked .ensures)))
-    (λ c. simp (c .if3 .left, c .before .before .before .if2 .left, c .before .before .before .before .if1 .taken, ← (c .before .fits2 .ensures), ← (c .before .before .data-count .ensures), ← (c .before .before .before .before .before .acknowledge-asked .ensures)))
+    (λ c. simp (c .before .if2 .taken, c .before .before .before .before .if1 .taken, ← (c .before .before .fits2 .ensures), ← (c .before .before .before .data-count .ensures), ← (c .before .before .before .before .before .acknowledge-asked .ensures)))
+    (λ c. simp (c .if2 .left, c .before .before .before .if1 .taken, ← (c .before .fits2 .ensures), ← (c .before .before .data-count .ensures)))
     (λ c. simp (c .if1 .left)))

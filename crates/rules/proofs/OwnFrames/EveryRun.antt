@@ -19,7 +19,7 @@ use Rattle.line.specs.declared.Part.the-variants as part
 use Rattle.rules.specs.Definitions.Registers.{command, transmitControl, autonomous, asksRearbitration}
 use Rattle.rules.specs.Definitions.Channels.{base, withCher, withChtx}
 use Rattle.rules.specs.Definitions.Mailbox.{coded, markedCher, markedChtx}
-use Rattle.rules.specs.Definitions.Reception.{quiet, atPlace, underWay, isUnderWay, behind, commandEnded, winnerTaken}
+use Rattle.rules.specs.Definitions.Reception.{quiet, atPlace, underWay, isUnderWay, isBody, inBody, behind, commandEnded, winnerTaken}
 use Rattle.rules.specs.Definitions.Hearing.{receptionAfter}
 use Rattle.rules.specs.Definitions.Delivery.{deliveryOf, memoryDelivered}
 use Rattle.rules.specs.Definitions.Attempt.{atStage, inService, isServing, betweenAttempts, isBetween, waits, isWaiting, drivesFrame, isDriving, levelAt, judge, advance}
@@ -175,7 +175,7 @@ unfolding heard heardAs roleOf
 ended-heard k w v d = rw d
 
 quiet-kept : (m : List ℕ) → pick (commandEnded quiet) (winnerTaken quiet m) quiet ≡ quiet
-unfolding commandEnded behind quiet atPlace
+unfolding commandEnded behind inBody isBody quiet atPlace
 quiet-kept m = refl
 
 ended-quiet : {w : Verdict} → Ended w → (m : List ℕ) (r : Reception) (v : ℕ) → receptionJudged m (hearOwn w) r v ≡ quiet

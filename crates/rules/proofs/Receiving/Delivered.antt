@@ -5,7 +5,7 @@ use mathlib.Core.List.{List, [], _∷_, _++_}
 use mathlib.Core.Path.{_≡_, refl, ap, _∙_, sym, subst}
 use native.Mathlib.Omega.{arith}
 use borrow.Author.Tests.{eq-eqb, ltb-true, ltb-false}
-use lib.Dec.{eqb, ltb}
+use lib.Dec.{eqb, ltb, leb}
 use lib.ListN.{length, getD, length-append}
 use lib.Seq.{getD-set-other}
 use Rattle.line.specs.Bits.{pick, bits}
@@ -113,7 +113,7 @@ unjudged-memory m k h g = rw g (unfold memoryEnded in refl)
 -- what a good frame does to it
 good-memory : (m : List ℕ) (r : Reception) {s : List ℕ} (w : Whole capacity r s) → memoryDelivered (deliveryOf hearing.Good r) m r ≡ received m (r .winner) (w .frame)
 unfolding deliveryOf deliveryTo delivered fits received
-good-memory m r w = rw (w .count-is) (go (r .winner .matched) (ltb (length (w .frame .bytes)) (r .winner .length)))
+good-memory m r w = rw (w .count-is) (go (r .winner .matched) (leb (length (w .frame .bytes) + 1) (r .winner .length)))
   where
     go : (a b : Bool) → memoryDelivered (pick a (pick b effect.Stored effect.Overflowed) effect.Nothing) m r
         ≡ pick a (pick b (storedFrame m (r .winner) (w .frame)) (markedCher m (r .winner .channel))) m
@@ -124,7 +124,7 @@ good-memory m r w = rw (w .count-is) (go (r .winner .matched) (ltb (length (w .f
 -- what it does to 0x07
 good-error : (x : Report) (r : Reception) {s : List ℕ} (w : Whole capacity r s) → reportDelivered (deliveryOf hearing.Good r) (reportHeard hearing.Good x) r .error ≡ errorAfter (x .error) (r .winner) (w .frame)
 unfolding deliveryOf deliveryTo delivered fits errorAfter reportHeard
-good-error x r w = rw (w .count-is) (go (r .winner .matched) (ltb (length (w .frame .bytes)) (r .winner .length)))
+good-error x r w = rw (w .count-is) (go (r .winner .matched) (leb (length (w .frame .bytes) + 1) (r .winner .length)))
   where
     go : (a b : Bool) → reportDelivered (pick a (pick b effect.Stored effect.Overflowed) effect.Nothing) x r .error ≡ pick a (pick b (x .error) BOV) (x .error)
     go true true = unfold reportDelivered reportStored in refl

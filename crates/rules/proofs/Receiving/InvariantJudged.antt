@@ -75,7 +75,7 @@ pair b v x (p ∷ q ∷ r ∷ y ∷ d) t h e =
 count-whole : (longest j n : ℕ) → j ≡ 7 + 2 * n → n ≤ longest → (whole j longest ≡ true) × (dataCount j ≡ n)
 unfolding whole dataCount
 count-whole longest j n e h =
-    (rw (le-ltb j 7 (omega arith), ne-eqb (j % 2) 0 (λ z. omega arith)) (le-leb j (mostNibbles longest) (omega arith)), rw (le-ltb j 7 (omega arith)) (omega arith))
+    (rw (eq-eqb (j % 2) 1 (omega arith), le-leb 7 j (omega arith)) (le-leb j (mostNibbles longest) (omega arith)), rw (le-ltb j 7 (omega arith)) (omega arith))
 
 received-below : (bytes : List ℕ) (n c : ℕ) → Below 256 bytes → checkReceived bytes n c < 2 ^ 15
 unfolding checkReceived

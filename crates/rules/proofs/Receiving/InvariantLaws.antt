@@ -2,7 +2,7 @@
 --   invariant-begun, invariant-step, invariant-named == it goes on telling them        invariant-good, invariant-acknowledges == what a good frame and a driven acknowledge say of the samples
 --   invariant-last, invariant-goes, invariant-fault, invariant-open == what the samples of a frame are judged as        invariant-command, invariant-kept, invariant-header == identifier and command
 use Prim.Native.Nat.{ℕ, suc, _+_, _-_, _*_, _/_, _%_, _≤_, _<_}
-use mathlib.Core.Bool.{Bool, true, false, false≢true}
+use mathlib.Core.Bool.{Bool, true, false, not, false≢true}
 use mathlib.Core.List.{List, [], _∷_, _++_, append-assoc}
 use mathlib.Core.Path.{_≡_, refl, ap, _∙_, sym}
 use native.Mathlib.Omega.{arith}
@@ -100,11 +100,6 @@ one-bit : (b : ℕ) → bits 1 b ≡ (b % 2) ∷ []
 unfolding bits
 one-bit b = let e : b / 1 % 2 ≡ b % 2 = omega arith in rw e
 
-no-command : (a b : Bool) → pick a (pick b false false) false ≡ false
-no-command true true = refl
-no-command true false = refl
-no-command false b = refl
-
 module _ (longest : ℕ) (r : Reception) (s : List ℕ) where
   under-way-in : (p : Phase) → InvariantIn longest p r s → isUnderWay p ≡ true
   unfolding InvariantIn isUnderWay
@@ -124,14 +119,17 @@ module _ (longest : ℕ) (r : Reception) (s : List ℕ) where
   winner-in Acknowledge t v = left (λ (x : Reception). x .winner) (eqb (r .place .at) 0) (bitTaken r v) (entered r End) (r .winner) refl refl
   winner-in End t v = left (λ (x : Reception). x .winner) (ltb (r .place .at) 7) (moved r) r (r .winner) refl refl
 
-  command-in : (p : Phase) → InvariantIn longest p r s → pick (eqb (r .place .at) 0) (pick (eqb (r .nibbles) 4) (isBody p) false) false ≡ eqb (length s) 30
+  command-in : (p : Phase) → InvariantIn longest p r s → both (isBody p) (both (eqb (r .nibbles) 4) (eqb (r .place .at) 0)) ≡ eqb (length s) 30
   unfolding InvariantIn isBody
   command-in Quiet t = absurd t
   command-in Start t =
-      no-command (eqb (r .place .at) 0) (eqb (r .nibbles) 4) ∙ sym (ne-eqb (length s) 30 (λ e. omega (arith, start-long r s t, t .within)))
+      sym (ne-eqb (length s) 30 (λ e. omega (arith, start-long r s t, t .within)))
   command-in Body t = go (eqb (r .place .at) 0) refl (eqb (r .nibbles) 4) refl
     where
-      go : (a : Bool) → eqb (r .place .at) 0 ≡ a → (b : Bool) → eqb (r .nibbles) 4 ≡ b → pick a (pick b true false) false ≡ eqb (length s) 30
+      elsewhere : (r .place .at ≡ 0 → ⊥) → false ≡ eqb (length s) 30
+      elsewhere x = let l = body-long r s t in let w = t .within in sym (ne-eqb (length s) 30 (λ e. x (omega arith)))
+
+      go : (a : Bool) → eqb (r .place .at) 0 ≡ a → (b : Bool) → eqb (r .nibbles) 4 ≡ b → both b a ≡ eqb (length s) 30
       go true p true q =
           let l = body-long r s t in
           let x = eqb-true (r .place .at) 0 p in
@@ -142,15 +140,12 @@ module _ (longest : ℕ) (r : Reception) (s : List ℕ) where
           let x = eqb-true (r .place .at) 0 p in
           let y = eqb-false (r .nibbles) 4 q in
           sym (ne-eqb (length s) 30 (λ e. y (omega arith)))
-      go false p b q =
-          let l = body-long r s t in
-          let w = t .within in
-          let x = eqb-false (r .place .at) 0 p in
-          sym (ne-eqb (length s) 30 (λ e. x (omega arith)))
+      go false p true q = elsewhere (eqb-false (r .place .at) 0 p)
+      go false p false q = elsewhere (eqb-false (r .place .at) 0 p)
   command-in Acknowledge t =
-      no-command (eqb (r .place .at) 0) (eqb (r .nibbles) 4) ∙ sym (ne-eqb (length s) 30 (λ e. omega (arith, acknowledge-long r s t)))
+      sym (ne-eqb (length s) 30 (λ e. omega (arith, acknowledge-long r s t)))
   command-in End t =
-      no-command (eqb (r .place .at) 0) (eqb (r .nibbles) 4) ∙ sym (ne-eqb (length s) 30 (λ e. omega (arith, end-long r s t)))
+      sym (ne-eqb (length s) 30 (λ e. omega (arith, end-long r s t)))
 
   named-in : (p : Phase) → r .place .phase ≡ p → InvariantIn longest p r s → isBody p ≡ true → (m : List ℕ) → Invariant longest (winnerTaken r m) s
   unfolding isBody
@@ -234,15 +229,12 @@ module _ (longest : ℕ) (r : Reception) (s : List ℕ) where
 
   acknowledges-asked : acknowledges r ≡ true → acknowledgeAsked (getD (r .bytes) 1 0) ≡ true
   unfolding acknowledges
-  acknowledges-asked e = go (r .winner .matched) (r .winner .«no_acknowledge») (fits (r .winner) (dataCount (r .nibbles))) e
+  acknowledges-asked e = go (r .winner .matched) (fits (r .winner) (dataCount (r .nibbles))) (acknowledgeAsked (getD (r .bytes) 1 0)) e
     where
-      asked : Bool
-      asked = acknowledgeAsked (getD (r .bytes) 1 0)
-
-      go : (a b c : Bool) → pick a (pick b false (pick c asked false)) false ≡ true → asked ≡ true
-      go true true c e = absurd (false≢true e)
-      go true false true e = e
-      go true false false e = absurd (false≢true e)
+      go : (a b c : Bool) → both a (both b (both c (not (r .winner .«no_acknowledge»)))) ≡ true → c ≡ true
+      go true true true e = refl
+      go true true false e = absurd (false≢true e)
+      go true false c e = absurd (false≢true e)
       go false b c e = absurd (false≢true e)
 
   before-acknowledge : (t : InAcknowledge longest r s) → r .place .at ≡ 1 → s ≡ take (50 + 10 * length (frameHeld r true .bytes)) (slots (frameHeld r true)) ++ ((r .bits % 2) ∷ [])
@@ -360,11 +352,10 @@ module _ {longest : ℕ} (r : Reception) (s : List ℕ) (t : Invariant longest r
 
   pub invariant-named : commandEnded r ≡ true → (m : List ℕ) → Invariant longest (winnerTaken r m) s
   unfolding commandEnded behind inBody
-  invariant-named e m = go (eqb (r .place .at) 0) (eqb (r .nibbles) 4) e
+  invariant-named e m = go (isBody (r .place .phase)) refl e
     where
-      go : (a b : Bool) → pick a (pick b (isBody (r .place .phase)) false) false ≡ true → Invariant longest (winnerTaken r m) s
-      go true true d = named-in longest r s (r .place .phase) refl invariant-in d m
-      go true false d = absurd (false≢true d)
+      go : (a : Bool) → isBody (r .place .phase) ≡ a → both a (both (eqb (r .nibbles) 4) (eqb (r .place .at) 0)) ≡ true → Invariant longest (winnerTaken r m) s
+      go true b d = named-in longest r s (r .place .phase) refl invariant-in b m
       go false b d = absurd (false≢true d)
 
   -- from then on identifier and command stay

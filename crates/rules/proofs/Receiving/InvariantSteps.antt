@@ -5,7 +5,7 @@ use mathlib.Core.List.{List, [], _∷_, _++_, append-assoc, append-nil}
 use mathlib.Core.Path.{_≡_, refl, ap, _∙_, sym, subst}
 use native.Mathlib.Omega.{arith}
 use native.Mathlib.Numerals.{add-one}
-use borrow.Author.Tests.{lt-ltb, eqb-true, eqb-false, ltb-true, ltb-false, leb-true, not-false}
+use borrow.Author.Tests.{lt-ltb, le-ltb, eqb-true, eqb-false, ltb-true, ltb-false, leb-true, not-false}
 use lib.Dec.{eqb, ltb, leb}
 use lib.ListN.{length, getD, take, replicate, replicate-append-replicate}
 use lib.Seq.{take-suc}
@@ -56,16 +56,16 @@ spared false y code e = (refl, e)
 -- a whole count of nibbles is that of a frame
 pub whole-count : (longest j : ℕ) → whole j longest ≡ true → (j ≡ 7 + 2 * dataCount j) × (dataCount j ≤ longest)
 unfolding whole dataCount
-whole-count longest j e = go (ltb j 7) refl (eqb (j % 2) 0) refl e
+whole-count longest j e = go (eqb (j % 2) 1) refl (leb 7 j) refl e
   where
-    go : (a : Bool) → ltb j 7 ≡ a → (b : Bool) → eqb (j % 2) 0 ≡ b → pick a false (pick b false (leb j (mostNibbles longest))) ≡ true → (j ≡ 7 + 2 * pick a 0 ((j - 7) / 2)) × (pick a 0 ((j - 7) / 2) ≤ longest)
-    go true p b q e = absurd (false≢true e)
-    go false p true q e = absurd (false≢true e)
-    go false p false q e =
-        let l = ltb-false j 7 p in
-        let o = eqb-false (j % 2) 0 q in
+    go : (a : Bool) → eqb (j % 2) 1 ≡ a → (b : Bool) → leb 7 j ≡ b → both a (both b (leb j (mostNibbles longest))) ≡ true → (j ≡ 7 + 2 * pick (ltb j 7) 0 ((j - 7) / 2)) × (pick (ltb j 7) 0 ((j - 7) / 2) ≤ longest)
+    go true p true q e =
+        let o = eqb-true (j % 2) 1 p in
+        let l = leb-true 7 j q in
         let m = leb-true j (mostNibbles longest) e in
-        (omega arith, omega arith)
+        rw (le-ltb j 7 l) (omega arith, omega arith)
+    go true p false q e = absurd (false≢true e)
+    go false p b q e = absurd (false≢true e)
 
 wider : {longest : ℕ} {f : Frame} → longest ≤ capacity → Fits longest f → Fits capacity f
 wider most f = record { identifier = f .identifier; command = f .command; size = omega (arith, f .size); bytes = f .bytes }

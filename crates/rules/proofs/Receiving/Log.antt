@@ -13,7 +13,7 @@ use Rattle.line.specs.Frame.{start}
 use Rattle.line.proofs.Laws.{picked}
 use Rattle.rules.specs.Definitions.Channels.{extension, reads, remote, chrx, chtx, channelAt, listensForData, listensForRequests, listens, takes, lowest, lowestListening, won, winnerFor, nobody}
 use Rattle.rules.specs.Definitions.Longest.{capacity}
-use Rattle.rules.specs.Definitions.Reception.{atPlace, quiet, isUnderWay, takesStart, underWay, behind, commandEnded, begun, followIn, followed, winnerTaken}
+use Rattle.rules.specs.Definitions.Reception.{atPlace, quiet, isUnderWay, takesStart, underWay, isBody, inBody, behind, commandEnded, begun, followIn, followed, winnerTaken}
 use Rattle.rules.specs.Definitions.Hearing.{receptionAfter, hearFrame, hearQuiet}
 use Rattle.rules.proofs.Receiving.Invariant.{Invariant}
 use Rattle.rules.proofs.Receiving.InvariantLaws.{invariant-begun, invariant-under-way, invariant-winner, invariant-command, invariant-named, invariant-kept, invariant-step, invariant-silent}
@@ -179,10 +179,10 @@ module _ (s : Service) (r : Reception) (l : Log) (v : ℕ) (m : List ℕ) where
 
   -- the frame has ended
   fault-after : (w : Verdict) (code : ℕ) → drivesFrame (settledAfter w s .effort .progress) ≡ false → After w (Fault code)
-  fault-after w code d = record { going = after-going w s; stage = apart d (unfold receptionJudged receptionAfter quiet atPlace underWay isUnderWay commandEnded behind in refl) }
+  fault-after w code d = record { going = after-going w s; stage = apart d (unfold receptionJudged receptionAfter quiet atPlace underWay isUnderWay commandEnded behind inBody isBody in refl) }
 
   good-after : (w : Verdict) → drivesFrame (settledAfter w s .effort .progress) ≡ false → After w Good
-  good-after w d = record { going = after-going w s; stage = apart d (unfold receptionJudged receptionAfter quiet atPlace underWay isUnderWay commandEnded behind in refl) }
+  good-after w d = record { going = after-going w s; stage = apart d (unfold receptionJudged receptionAfter quiet atPlace underWay isUnderWay commandEnded behind inBody isBody in refl) }
 
   -- it goes on, and the model only listens
   follows-after : (w : Verdict) → drivesFrame (settledAfter w s .effort .progress) ≡ false → v < 2 → Following r l → hearFrame r 30 v ≡ Follows → After w Follows
@@ -203,7 +203,7 @@ module _ (s : Service) (r : Reception) (l : Log) (v : ℕ) (m : List ℕ) where
   unfolding receptionJudged receptionAfter followed
   begun-judged u =
       let e : followIn (r .place .phase) r v ≡ begun = rw (underway-quiet (r .place .phase) (unfold underWay in u)) (unfold followIn in refl) in
-      rw e (unfold commandEnded behind begun quiet atPlace in refl)
+      rw e (unfold commandEnded behind inBody isBody begun quiet atPlace in refl)
 
   -- no frame was under way, and a 0 begins one
   begins-after : underWay (r .place) ≡ false → l ≡ noLog → v ≡ 0 → Following (receptionJudged m Follows r v) (sampledLog l v m)

@@ -145,10 +145,10 @@ pub record StartTaken (r : Reception) : Type 0 where
 
 start-taken : (r : Reception) → startEnded r ≡ true → StartTaken r
 unfolding startEnded behind inBody
-start-taken r e = go (eqb (r .place .at) 0) refl (eqb (r .nibbles) 0) refl e
+start-taken r e = go (isBody (r .place .phase)) refl (eqb (r .nibbles) 0) refl e
   where
-    go : (a : Bool) → eqb (r .place .at) 0 ≡ a → (b : Bool) → eqb (r .nibbles) 0 ≡ b → pick a (pick b (isBody (r .place .phase)) false) false ≡ true → StartTaken r
-    go true x true y e = record { at = eqb-true (r .place .at) 0 x; nibbles = eqb-true (r .nibbles) 0 y; phase = body-is (r .place .phase) e }
+    go : (a : Bool) → isBody (r .place .phase) ≡ a → (b : Bool) → eqb (r .nibbles) 0 ≡ b → both a (both b (eqb (r .place .at) 0)) ≡ true → StartTaken r
+    go true x true y e = record { at = eqb-true (r .place .at) 0 e; nibbles = eqb-true (r .nibbles) 0 y; phase = body-is (r .place .phase) x }
     go true x false y e = absurd (false≢true e)
     go false x b y e = absurd (false≢true e)
 

@@ -38,10 +38,10 @@ receptionAfter Good r v = quiet
 
 -- "Exactly an odd number of whole nibbles, 7 to 67, stands before the last three bits."
 unfoldable pub whole : ℕ → ℕ → Bool
-whole nibbles longest = pick (ltb nibbles 7) false (pick (eqb (nibbles % 2) 0) false (leb nibbles (mostNibbles longest)))
+whole nibbles longest = both (eqb (nibbles % 2) 1) (both (leb 7 nibbles) (leb nibbles (mostNibbles longest)))
 
 unfoldable pub replyRequest : ℕ → Bool
-replyRequest low = pick (extension low) (both (reads low) (remote low)) false
+replyRequest low = both (extension low) (both (reads low) (remote low))
 
 -- the last fifteen bits: the bytes hold twelve of them behind the data, the last three are plain
 unfoldable pub checkReceived : List ℕ → ℕ → ℕ → ℕ
@@ -75,15 +75,13 @@ hearStart at v = pick (eqb v (getD start at 1)) Follows (Fault CV)
 
 -- "It fits when n + 1 is at most M_L."
 unfoldable pub fits : Winner → ℕ → Bool
-fits w n = ltb n (w .length)
+fits w n = leb (n + 1) (w .length)
 
 -- "Matched and fitting, RAK 1, DRAK 0, check right: the model drives the acknowledge." The check is right where the acknowledge is reached.
 unfoldable pub acknowledges : Reception → Bool
 acknowledges r =
-    pick (r .winner .matched)
-    (pick (r .winner .«no_acknowledge») false
-    (pick (fits (r .winner) (dataCount (r .nibbles))) (acknowledgeAsked (getD (r .bytes) 1 0)) false))
-    false
+    both (r .winner .matched)
+    (both (fits (r .winner) (dataCount (r .nibbles))) (both (acknowledgeAsked (getD (r .bytes) 1 0)) (not (r .winner .«no_acknowledge»))))
 
 -- "RAK 0 with acknowledge seen is FV. So are patterns other than 10 and 11, and 11 where the model drove 10"
 unfoldable pub acknowledgeWrong : Bool → Bool → ℕ → ℕ → Bool

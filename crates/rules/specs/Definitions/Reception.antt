@@ -8,6 +8,7 @@ use lib.Dec.{eqb, ltb, leb}
 use lib.ListN.{getD, set, replicate}
 use Rattle.line.specs.Bits.{pick}
 use Rattle.rules.specs.Definitions.Longest.{capacity, mostNibbles}
+use Rattle.rules.specs.Definitions.Registers.{both}
 use Rattle.rules.specs.Definitions.Channels.{nobody, winnerFor}
 use Rattle.rules.specs.declared.Winner.{Winner}
 use Rattle.rules.specs.declared.Line.{Line}
@@ -71,7 +72,7 @@ inBody p = isBody (p .phase)
 
 -- between two nibbles, with so many whole
 unfoldable pub behind : Reception → ℕ → Bool
-behind r whole = pick (eqb (r .place .at) 0) (pick (eqb (r .nibbles) whole) (inBody (r .place)) false) false
+behind r whole = both (inBody (r .place)) (both (eqb (r .nibbles) whole) (eqb (r .place .at) 0))
 
 -- a clean start sequence has just ended
 unfoldable pub startEnded : Reception → Bool

@@ -7,7 +7,7 @@ use Prim.Native.Nat.{ℕ, _+_, _*_, _≤_}
 use mathlib.Core.Bool.{true}
 use mathlib.Core.List.{List, [], _∷_, _++_}
 use mathlib.Core.Path.{_≡_}
-use lib.Dec.{eqb, ltb}
+use lib.Dec.{eqb, leb}
 use lib.ListN.{length, getD, take}
 use Rattle.line.specs.Bits.{pick}
 use Rattle.line.specs.Frame.{Frame, Fits, slots}
@@ -43,11 +43,11 @@ storedFrame m w f =
 
 -- nothing where no channel takes it; "It fits when n + 1 is at most M_L", else CHER
 unfoldable pub received : List ℕ → Winner → Frame → List ℕ
-received m w f = pick (w .matched) (pick (ltb (length (f .bytes)) (w .length)) (storedFrame m w f) (markedCher m (w .channel))) m
+received m w f = pick (w .matched) (pick (leb (length (f .bytes) + 1) (w .length)) (storedFrame m w f) (markedCher m (w .channel))) m
 
 -- 0x07: BOV where it is "otherwise valid but doesn't fit"; else it stays
 unfoldable pub errorAfter : ℕ → Winner → Frame → ℕ
-errorAfter x w f = pick (w .matched) (pick (ltb (length (f .bytes)) (w .length)) x BOV) x
+errorAfter x w f = pick (w .matched) (pick (leb (length (f .bytes) + 1) (w .length)) x BOV) x
 
 -- ---- the log
 

@@ -1,11 +1,11 @@
 -- What makes a frame of another module a valid one for the model (01, Receiving). `w` is who takes it, held from its last command slot on.
 --   high, low == the two bytes of identifier and command        owes == whether the model drives the acknowledge        Valid == the frame is valid
 use Prim.Native.Nat.{ℕ, _+_, _*_, _/_, _%_}
-use mathlib.Core.Bool.{Bool, true, false}
+use mathlib.Core.Bool.{Bool, true, not}
 use mathlib.Core.Path.{_≡_}
 use lib.ListN.{length}
-use Rattle.line.specs.Bits.{pick}
 use Rattle.line.specs.Frame.{Frame}
+use Rattle.rules.specs.Definitions.Registers.{both}
 use Rattle.rules.specs.Definitions.Channels.{acknowledgeAsked}
 use Rattle.rules.specs.Definitions.Hearing.{fits, replyRequest}
 use Rattle.rules.specs.declared.Winner.{Winner}
@@ -20,11 +20,7 @@ low f = f .identifier % 16 * 16 + f .command
 
 -- "Matched and fitting, RAK 1, DRAK 0 .. the model drives the acknowledge."
 unfoldable pub owes : Winner → Frame → Bool
-owes w f =
-    pick (w .matched)
-    (pick (w .«no_acknowledge») false
-    (pick (fits w (length (f .bytes))) (acknowledgeAsked (low f)) false))
-    false
+owes w f = both (w .matched) (both (fits w (length (f .bytes))) (both (acknowledgeAsked (low f)) (not (w .«no_acknowledge»))))
 
 pub record Valid (w : Winner) (f : Frame) : Type 0 where
   -- a reply request has no data
