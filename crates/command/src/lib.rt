@@ -192,9 +192,11 @@ fn stopped_core(k: Core, s: Service) -> Core
     ensures { λ r. ⌜ r ≡ rule.stoppedCore k s ⌝ }
 {
     let x = ending::stopped(s);
+    let report = reports::report_ended(x, k.report, s);
+    let service = ending::settled(x, s);
     let mut t = k;
-    t.report = reports::report_ended(x, k.report, s);
-    t.service = ending::settled(x, s);
+    t.report = report;
+    t.service = service;
     state::idle_due(t)
 }
 
