@@ -12,6 +12,7 @@ use Rattle.line.specs.Frame.{Frame, byteBits, covered}
 use Rattle.line.proofs.Laws.{next, header-bits}
 use Rattle.rules.specs.Definitions.Channels.{base, bufferOf, twelve}
 use Rattle.rules.specs.Definitions.Mailbox.{mailboxAt, statusByte, laidFrom, stored, mailboxBytes, dataIn, sentFrame, codedBytes, coded}
+use Rattle.rules.proofs.Ranges.Bytes.{mailbox-length}
 use Rattle.rules.specs.declared.Buffer.{Buffer}
 use Rattle.rules.specs.declared.Coded.{Coded}
 
@@ -42,11 +43,6 @@ unfolding mailboxBytes
 copy-end bytes m pointer n k i j h =
     let e : n - k ≡ 0 = omega arith in
     rw e
-
-pub bytes-length : (m : List ℕ) (pointer k n : ℕ) → length (mailboxBytes m pointer k n) ≡ n
-unfolding mailboxBytes
-bytes-length m pointer k zero = refl
-bytes-length m pointer k (suc n) = ap suc (bytes-length m pointer (k + 1) n)
 
 -- ---- a frame's bytes
 
@@ -117,7 +113,7 @@ unfolding sentFrame
 sent-coded m c at n b t₀ t r p q s h u v w =
     let f : Frame = sentFrame m c in
     let d : n ≡ dataIn (bufferOf m c .length) = rw (← q) s in
-    let l : length (f .bytes) ≡ n = rw (← d) (bytes-length m (bufferOf m c .pointer) 1 n) in
+    let l : length (f .bytes) ≡ n = rw (← d) (mailbox-length m (bufferOf m c .pointer) 1 n) in
     let g : t ≡ sets ((f .identifier / 16) ∷ (f .identifier % 16 * 16 + f .command) ∷ replicate 32 0) 2 (f .bytes) = v ∙ rw (u, q, p, d) in
     coded-is f n r (sym l) (w ∙ coded-bytes f t n (omega arith) l h g)
 
