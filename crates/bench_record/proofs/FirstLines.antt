@@ -4,11 +4,11 @@ use mathlib.Core.List.{List, [], _∷_, _++_, append-assoc}
 use mathlib.Core.Path.{_≡_, refl, ap, sym, _∙_}
 use native.Mathlib.Omega.{arith}
 use lib.ListN.{length, take}
-use Rattle.leb128.specs.Number.{Bytes, written}
+use Rattle.leb128.specs.Leb128.{Bytes, uleb128}
 use Rattle.session.specs.declared.Fault.{Fault}
 use Rattle.session.specs.declared.Event.{Event}
 use Rattle.session.specs.declared.End.the-variants.{Bad}
-use Rattle.session.specs.Reading.{longest, Events, Reading, NoHeader, Counted, session, eventsAt}
+use Rattle.session.specs.Reading.{mostEvents, Events, Reading, NoHeader, Counted, session, eventsAt}
 use Rattle.session.specs.Writing.{eventsBytes, AllFit}
 use Rattle.session.proofs.Whole.{begins}
 use Rattle.session.specs.Claims.{Begins}
@@ -35,13 +35,13 @@ listing-begins count es r fs e =
     (b .0 ++ x, rw (e, b .1) (simp append-assoc))
 
 -- Sessions that agree on the bytes of their count and first events have the same lines for these.
-pub first-events : (count : ℕ) (es : List Event) → count ≤ longest → length es ≤ count → AllFit es
-    → (t : List ℕ) → BeginsWith count es (listingOf (written 1 ++ written count ++ eventsBytes es ++ t))
+pub first-events : (count : ℕ) (es : List Event) → count ≤ mostEvents → length es ≤ count → AllFit es
+    → (t : List ℕ) → BeginsWith count es (listingOf (uleb128 1 ++ uleb128 count ++ eventsBytes es ++ t))
 unfolding listingOf
 first-events count es h n fit t =
-    let s = written 1 ++ written count ++ eventsBytes es ++ t in
-    let b = begins longest count s t es h (omega arith) fit n refl in
-    let r = eventsAt (count - length es) s (length (written 1 ++ written count ++ eventsBytes es)) in
+    let s = uleb128 1 ++ uleb128 count ++ eventsBytes es ++ t in
+    let b = begins mostEvents count s t es h (omega arith) fit n refl in
+    let r = eventsAt (count - length es) s (length (uleb128 1 ++ uleb128 count ++ eventsBytes es)) in
     rw b (listing-begins count es (record { events = es ++ r .events; end = r .end }) (r .events) refl)
 
 begun-so : (count : ℕ) (es : List Event) (q : Reading) → Begins count es q → BeginsWith count es (listing q)
@@ -50,7 +50,7 @@ begun-so count es (NoHeader f p) b = absurd b
 begun-so count es (Counted d r) b = rw (b .0) (listing-begins count es r (b .1 .0) (b .1 .1))
 
 -- The lines before a `bad` are the same whatever follows its place.
-pub before-a-fault : (s : List ℕ) → Bytes s → (count : ℕ) (r : Events) → session longest s ≡ Counted count r → (f : Fault) (p : ℕ) → r .end ≡ Bad f p
+pub before-a-fault : (s : List ℕ) → Bytes s → (count : ℕ) (r : Events) → session mostEvents s ≡ Counted count r → (f : Fault) (p : ℕ) → r .end ≡ Bad f p
     → (t : List ℕ) → BeginsWith count (r .events) (listingOf (take p s ++ t))
 unfolding listingOf
-before-a-fault s b count r e f p i t = begun-so count (r .events) (session longest (take p s ++ t)) (prefix longest s b count r e f p i t)
+before-a-fault s b count r e f p i t = begun-so count (r .events) (session mostEvents (take p s ++ t)) (prefix mostEvents s b count r e f p i t)

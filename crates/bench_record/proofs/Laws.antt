@@ -9,16 +9,16 @@ use borrow.Author.Tests.{ltb-false, le-ltb, lt-ltb}
 use lib.Dec.{ltb, eqb}
 use lib.ListN.{length, take, drop, length-append}
 use lib.Seq.{sets, sets-eq, take-append-seam}
-use Rattle.leb128.specs.Number.{pick}
+use Rattle.leb128.specs.Leb128.{pick}
 use Rattle.session.specs.declared.Fault.{Fault}
 use Rattle.session.specs.declared.Fault.the-variants.{Count, Version}
 use Rattle.session.specs.declared.Event.{Event}
-use Rattle.session.specs.declared.Number.{Number}
-use Rattle.session.specs.declared.Number.the-variants.{Value, Bad as BadNumber}
+use Rattle.session.specs.declared.Varint.{Varint}
+use Rattle.session.specs.declared.Varint.the-variants.{Value, Bad as BadVarint}
 use Rattle.session.specs.declared.Header.{Header}
 use Rattle.session.specs.declared.Header.the-variants.{Good, Bad as BadHeader}
 use Rattle.session.specs.declared.Item.the-variants.{Next, Bad as BadItem}
-use Rattle.session.specs.Reading.{longest, faultNumber, numberAt, counted, versioned, headerAt, eventAt, endAt, eventsAt}
+use Rattle.session.specs.Reading.{mostEvents, faultNumber, varintAt, counted, versioned, headerAt, eventAt, endAt, eventsAt}
 use Rattle.session.proofs.Walk.{no-header, counts, none-due, stops, goes-on}
 use Rattle.rules.specs.Definitions.Run.{fresh}
 use Rattle.rules.specs.Definitions.Answers.{controller, answerLent, refusedBy, valueOf}
@@ -131,36 +131,36 @@ abbrev pub countOf : Header → ℕ
 countOf (Good c next) = c
 countOf (BadHeader f p) = 0
 
-counted-most : (most at : ℕ) (r : Number) → countOf (counted most at r) ≤ most
+counted-most : (most at : ℕ) (r : Varint) → countOf (counted most at r) ≤ most
 unfolding counted
-counted-most most at (BadNumber f p) = omega arith
+counted-most most at (BadVarint f p) = omega arith
 counted-most most at (Value c next) = go (ltb most c) (ltb-false most c)
   where
     go : (t : Bool) → (t ≡ false → c ≤ most) → countOf (pick t (BadHeader Count at) (Good c next)) ≤ most
     go true h = omega arith
     go false h = h refl
 
-versioned-most : (most : ℕ) (s : List ℕ) (at : ℕ) (r : Number) → countOf (versioned most s at r) ≤ most
+versioned-most : (most : ℕ) (s : List ℕ) (at : ℕ) (r : Varint) → countOf (versioned most s at r) ≤ most
 unfolding versioned
-versioned-most most s at (BadNumber f p) = omega arith
+versioned-most most s at (BadVarint f p) = omega arith
 versioned-most most s at (Value v next) = go (eqb v 1)
   where
-    go : (t : Bool) → countOf (pick t (counted most next (numberAt s next)) (BadHeader Version at)) ≤ most
-    go true = counted-most most next (numberAt s next)
+    go : (t : Bool) → countOf (pick t (counted most next (varintAt s next)) (BadHeader Version at)) ≤ most
+    go true = counted-most most next (varintAt s next)
     go false = omega arith
 
 pub count-most : (most : ℕ) (s : List ℕ) (at c next : ℕ) → headerAt most s at ≡ Good c next → c ≤ most
 unfolding headerAt
-count-most most s at c next e = rw e at (versioned-most most s at (numberAt s at))
+count-most most s at c next e = rw e at (versioned-most most s at (varintAt s at))
 
-pub header-bad : {room after : List ℕ} {r : ℕ} (s : List ℕ) (n p : ℕ) (f : Fault) → headerAt longest s 0 ≡ BadHeader f p → n ≡ faultNumber f → Laid room 0 (badLine n p) after r → Laid room 0 (listingOf s) after r
+pub header-bad : {room after : List ℕ} {r : ℕ} (s : List ℕ) (n p : ℕ) (f : Fault) → headerAt mostEvents s 0 ≡ BadHeader f p → n ≡ faultNumber f → Laid room 0 (badLine n p) after r → Laid room 0 (listingOf s) after r
 unfolding listingOf listing
-header-bad s n p f e h l = rw (no-header longest s e, ← h) l
+header-bad s n p f e h l = rw (no-header mostEvents s e, ← h) l
 
-pub header-good : {room between after : List ℕ} {at r : ℕ} (s : List ℕ) (c next : ℕ) → headerAt longest s 0 ≡ Good c next → Laid room 0 (eventsLine c) between at → Laid between at (body fresh 0 c (eventsAt c s next)) after r
+pub header-good : {room between after : List ℕ} {at r : ℕ} (s : List ℕ) (c next : ℕ) → headerAt mostEvents s 0 ≡ Good c next → Laid room 0 (eventsLine c) between at → Laid between at (body fresh 0 c (eventsAt c s next)) after r
     → Laid room 0 (listingOf s) after r
 unfolding listingOf listing
-header-good s c next e k l = rw (counts longest s e) (joined k l)
+header-good s c next e k l = rw (counts mostEvents s e) (joined k l)
 
 -- ---- what is listed lies in the room
 

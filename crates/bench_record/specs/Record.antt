@@ -4,12 +4,12 @@ use Prim.Native.Nat.{ℕ, _+_}
 use mathlib.Core.List.{List, [], _∷_, _++_}
 use lib.Dec.{ltb}
 use lib.ListN.{length, drop}
-use Rattle.leb128.specs.Number.{pick}
+use Rattle.leb128.specs.Leb128.{pick}
 use Rattle.session.specs.declared.Event.{Event}
 use Rattle.session.specs.declared.Event.the-variants.{Reset, Write, Read, Slot, Mark}
 use Rattle.session.specs.declared.End.{End}
 use Rattle.session.specs.declared.End.the-variants.{Clean, Bad}
-use Rattle.session.specs.Reading.{longest, faultNumber, Events, Reading, NoHeader, Counted, session}
+use Rattle.session.specs.Reading.{mostEvents, faultNumber, Events, Reading, NoHeader, Counted, session}
 use Rattle.rules.specs.Definitions.Run.{fresh, step, accept}
 use Rattle.rules.specs.declared.Event.the-variants as controls
 use Rattle.rules.specs.declared.Controller.{Controller}
@@ -45,9 +45,9 @@ listing (NoHeader f p) = badLine (faultNumber f) p
 listing (Counted count r) = eventsLine count ++ body fresh 0 count r
 
 unfoldable pub listingOf : List ℕ → List ℕ
-listingOf s = listing (session longest s)
+listingOf s = listing (session mostEvents s)
 
--- 01, Numbers refused: "13 output too short": the room is shorter than the listing. Else the listing's length is the answer.
+-- 01, Numbers refused: 13, "output too short": the room is shorter than the listing. Else the listing's length is the answer.
 unfoldable pub played : ℕ → List ℕ → Played
 played room text = pick (ltb room (length text)) Short (Listed (length text))
 
@@ -55,6 +55,6 @@ unfoldable pub number : Played → ℕ
 number (Listed n) = 0
 number Short = 13
 
--- The lent room afterwards: "lent room past an answer keeps its bytes"; refused, it is as it was.
+-- The lent room afterwards: "Lent room past an answer keeps its bytes." Where it is too short, it is as it was.
 unfoldable pub playedRoom : List ℕ → List ℕ → List ℕ
 playedRoom room text = pick (ltb (length room) (length text)) room (text ++ drop (length text) room)

@@ -39,8 +39,9 @@ use Rattle.rules.specs.declared.Winner.{Winner}
 use Rattle.rules.specs.declared.Controller.{Controller}
 use Rattle.rules.specs.declared.Event.{Event}
 use Rattle.rules.specs.declared.Event.the-variants.{Reset, Write, Read, Slot}
-use Rattle.leb128.specs.Number.{Bytes, number, written, before, faultOf, Number}
-use Rattle.session.specs.Reading.{longest, Events, Counted, session}
+use Rattle.leb128.specs.Leb128.{Bytes, uleb128}
+use Rattle.leb128.specs.Leb128 as leb128
+use Rattle.session.specs.Reading.{mostEvents, Events, Counted, session}
 use Rattle.session.specs.Writing.{sessionBytes, AllFit}
 use Rattle.session.specs.Claims.{Settled}
 use Rattle.session.specs.Claims as sessions
@@ -86,10 +87,10 @@ pub record Sessions : Type 0 where
   pub sound : (most : ℕ) (s : List ℕ) → Bytes s → (es : List session-event.Event) → sessions.Good most s es → (length es ≤ most) × AllFit es × (s ≡ sessionBytes es)
   pub complete : (most : ℕ) (es : List session-event.Event) → length es ≤ most → length es ≤ 65535 → AllFit es → sessions.Good most (sessionBytes es) es
   -- "a good session has at most 28,675" bytes
-  pub short : (s : List ℕ) → Bytes s → (es : List session-event.Event) → sessions.Good longest s es → length s ≤ 28675
+  pub short : (s : List ℕ) → Bytes s → (es : List session-event.Event) → sessions.Good mostEvents s es → length s ≤ 28675
   -- a number's "shortest form only", and "the rest of the caller's bytes is handed back"
-  pub number-sound : (s : List ℕ) → Bytes s → (n : ℕ) (t : List ℕ) → number s ≡ Number n t → (n ≤ 65535) × (s ≡ written n ++ t)
-  pub number-complete : (n : ℕ) (t : List ℕ) → n ≤ 65535 → number (written n ++ t) ≡ Number n t
+  pub number-sound : (s : List ℕ) → Bytes s → (n : ℕ) (t : List ℕ) → leb128.decode s ≡ leb128.Value n t → (n ≤ 65535) × (s ≡ uleb128 n ++ t)
+  pub number-complete : (n : ℕ) (t : List ℕ) → n ≤ 65535 → leb128.decode (uleb128 n ++ t) ≡ leb128.Value n t
 
 -- ---- demand 2
 
@@ -174,8 +175,8 @@ pub record Marked : Type 0 where
   -- "P9 pointer 0x7F, two bytes: 0xFF, 0x80, 0x81."
   pub p9 : (mailboxAt 0x7F 0 ≡ 0xFF) × (mailboxAt 0x7F 1 ≡ 0x80) × (mailboxAt 0x7F 2 ≡ 0x81)
   -- "P10 300: AC 02. P11 83 00: 31."
-  pub p10 : (written 300 ≡ 0xAC ∷ 0x02 ∷ []) × (number (0xAC ∷ 0x02 ∷ []) ≡ Number 300 [])
-  pub p11 : faultOf (number (0x83 ∷ 0x00 ∷ [])) ≡ 31
+  pub p10 : (uleb128 300 ≡ 0xAC ∷ 0x02 ∷ []) × (leb128.decode (0xAC ∷ 0x02 ∷ []) ≡ leb128.Value 300 [])
+  pub p11 : leb128.faultOf (leb128.decode (0x83 ∷ 0x00 ∷ [])) ≡ 31
   -- "P12 RAK 1, R/W 0, RTR 0, three bytes: 0x83."
   pub p12 : (low : ℕ) → low % 8 ≡ 0b100 → statusByte low 3 ≡ 0x83
   -- "M_L 3 takes 2 bytes and not 3" (also run)

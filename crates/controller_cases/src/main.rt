@@ -158,7 +158,7 @@ fn refused(reply: Reply) {
 // The line of a fault of the session, with its place.
 fn bad(f: Fault, p: usize) {
     io::write_all(STDOUT_FILENO, b"bad ");
-    io::print_decimal(STDOUT_FILENO, session::code_of(f) as u64);
+    io::print_decimal(STDOUT_FILENO, session::fault_number(f) as u64);
     line(b" at ", p as u64);
 }
 

@@ -6,17 +6,17 @@ use native.Mathlib.Omega.{arith}
 use native.Mathlib.Numerals.{sub-one}
 use borrow.Author.Tests.{lt-ltb, eq-eqb, ne-eqb}
 use lib.ListN.{getD, length, drop, take}
-use Rattle.leb128.specs.Number.{Read, refusalNumber, groups, before, restOf, valueOf, faultOf}
+use Rattle.leb128.specs.Leb128.{Parsed, refusalNumber, groups, before, restOf, valueOf, faultOf}
 use Rattle.leb128.proofs.GroupLaws as law
-use Rattle.leb128.proofs.GroupLaws.{alone, opens, is-number, to-end}
-use Rattle.leb128.specs.Number.Read.{Number, Refused}
-use Rattle.leb128.specs.Number.Refusal.{Cut, NotShortest, TooLarge}
+use Rattle.leb128.proofs.GroupLaws.{alone, opens, is-value, to-end}
+use Rattle.leb128.specs.Leb128.Parsed.{Value, Refused}
+use Rattle.leb128.specs.Leb128.Refusal.{Cut, NotShortest, TooLarge}
 
 -- the parts of the answer r: the rest t, the value v and the fault f
-abbrev pub Answer : Read → List ℕ → ℕ → ℕ → Type 0
+abbrev pub Answer : Parsed → List ℕ → ℕ → ℕ → Type 0
 Answer r t v f = (t ≡ restOf r) × ((v ≡ valueOf r) × (f ≡ faultOf r))
 
-pub answers : {r x : Read} → r ≡ x → Answer r (restOf x) (valueOf x) (faultOf x)
+pub answers : {r x : Parsed} → r ≡ x → Answer r (restOf x) (valueOf x) (faultOf x)
 answers e = (sym (ap restOf e), (sym (ap valueOf e), sym (ap faultOf e)))
 
 pub no-group : (n : ℕ) (s : List ℕ) → n ≡ 0 → groups n s ≡ Refused TooLarge
@@ -30,7 +30,7 @@ missing zero s h k = absurd (h refl)
 missing (suc n) [] h k = refl
 missing (suc n) (b ∷ s) h k = absurd (omega arith)
 
-pub last : (n : ℕ) (s : List ℕ) → (n ≡ 0 → ⊥) → (length s ≡ 0 → ⊥) → getD s 0 0 < 128 → groups n s ≡ Number (getD s 0 0) (drop 1 s)
+pub last : (n : ℕ) (s : List ℕ) → (n ≡ 0 → ⊥) → (length s ≡ 0 → ⊥) → getD s 0 0 < 128 → groups n s ≡ Value (getD s 0 0) (drop 1 s)
 last zero s h k l = absurd (h refl)
 last (suc n) [] h k l = absurd (k refl)
 last (suc n) (b ∷ s) h k l = alone n b s l
@@ -45,17 +45,17 @@ pub further : (n : ℕ) (s : List ℕ) → (n ≡ 0 → ⊥) → (length s ≡ 0
 further n s h k l = next n s h k l ∙ rw (to-end 1 s)
 
 -- by what the further groups gave: the rest t, the value v and the fault f
-refused : (b : ℕ) (r : Read) → (faultOf r ≡ 0 → ⊥) → before b r ≡ r
+refused : (b : ℕ) (r : Parsed) → (faultOf r ≡ 0 → ⊥) → before b r ≡ r
 unfolding before faultOf
-refused b (Number v t) h = absurd (h refl)
+refused b (Value v t) h = absurd (h refl)
 refused b (Refused f) h = refl
 
-module _ (b : ℕ) (r : Read) {q : Read} {t : List ℕ} {v f : ℕ} (e : q ≡ before b r) (a : Answer r t v f) where
+module _ (b : ℕ) (r : Parsed) {q : Parsed} {t : List ℕ} {v f : ℕ} (e : q ≡ before b r) (a : Answer r t v f) where
   pub is-refused : (f ≡ 0 → ⊥) → Answer q t v f
   is-refused h = rw (e ∙ refused b r (λ z. h (a .1 .1 ∙ z))) a
 
-  whole : f ≡ 0 → q ≡ before b (Number v t)
-  whole h = e ∙ ap (before b) (is-number r (sym (a .1 .1) ∙ h) ∙ rw (a .0, a .1 .0))
+  whole : f ≡ 0 → q ≡ before b (Value v t)
+  whole h = e ∙ ap (before b) (is-value r (sym (a .1 .1) ∙ h) ∙ rw (a .0, a .1 .0))
 
   pub adds-nothing : f ≡ 0 → v ≡ 0 → Answer q [] 0 31
   unfolding before restOf valueOf faultOf refusalNumber
@@ -67,4 +67,4 @@ module _ (b : ℕ) (r : Read) {q : Read} {t : List ℕ} {v f : ℕ} (e : q ≡ b
 
   pub joins : f ≡ 0 → (v ≡ 0 → ⊥) → v * 128 + b % 128 ≤ 65535 → Answer q t (v * 128 + b % 128) f
   unfolding restOf valueOf faultOf
-  joins h k l = let w = answers {x = Number (v * 128 + b % 128) t} (whole h ∙ law.joins b v t k l) in (w .0, (w .1 .0, h ∙ w .1 .1))
+  joins h k l = let w = answers {x = Value (v * 128 + b % 128) t} (whole h ∙ law.joins b v t k l) in (w .0, (w .1 .0, h ∙ w .1 .1))

@@ -1,2 +1,2 @@
-pub mod Number
+pub mod Leb128
 pub mod Cases

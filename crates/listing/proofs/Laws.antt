@@ -9,11 +9,11 @@ use borrow.Author.Tests.{ltb-false, lt-ltb, le-ltb, le-leb}
 use lib.Dec.{ltb}
 use lib.ListN.{length, set, length-append}
 use lib.Seq.{sets}
-use Rattle.leb128.specs.Number.{pick}
+use Rattle.leb128.specs.Leb128.{pick}
 use Rattle.listing.specs.declared.Edge.{Edge}
 use Rattle.listing.specs.declared.Edge.the-variants.{Count, Bad, End}
 use Rattle.listing.specs.Laid.{Laid, words}
-use Rattle.listing.specs.Listing.{digit, decimalIn, decimal, twoDigits, hexadecimalIn, hexadecimal, newline, eventsText, endText, badText, atText, eventsLine, endLine, badLine, edgeLine, longest, holds, lineRoom, linePlace}
+use Rattle.listing.specs.Listing.{digit, decimalIn, decimal, twoDigits, hexadecimalIn, hexadecimal, newline, eventsText, endText, badText, atText, eventsLine, endLine, badLine, edgeLine, longestLine, holds, lineRoom, linePlace}
 
 -- ---- decimal
 
@@ -98,9 +98,9 @@ joined {a} {b} {c} {i} {j} {k} {vs} {ws} p q =
     }
 
 -- A line that is held is laid.
-pub line-laid : {room after text : List ℕ} {at r : ℕ} → at + longest ≤ length room → r ≡ linePlace (length room) at text → after ≡ lineRoom room at text → Laid room at text after r
+pub line-laid : {room after text : List ℕ} {at r : ℕ} → at + longestLine ≤ length room → r ≡ linePlace (length room) at text → after ≡ lineRoom room at text → Laid room at text after r
 unfolding holds linePlace lineRoom
-line-laid {room} {at = at} h p q = record { room = simp (le-leb (at + longest) (length room) h) at q; behind = simp (le-leb (at + longest) (length room) h) at p }
+line-laid {room} {at = at} h p q = record { room = simp (le-leb (at + longestLine) (length room) h) at q; behind = simp (le-leb (at + longestLine) (length room) h) at p }
 
 -- ---- a line around the events is its words and a line feed
 

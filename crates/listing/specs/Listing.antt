@@ -6,7 +6,7 @@ use mathlib.Core.List.{List, [], _∷_, _++_}
 use lib.Dec.{ltb, leb, eqb}
 use lib.ListN.{length}
 use lib.Seq.{sets}
-use Rattle.leb128.specs.Number.{pick}
+use Rattle.leb128.specs.Leb128.{pick}
 use Rattle.session.specs.declared.Event.{Event}
 use Rattle.session.specs.declared.Event.the-variants.{Reset, Write, Read, Slot, Mark}
 use Rattle.listing.specs.declared.Edge.{Edge}
@@ -16,7 +16,7 @@ use Rattle.listing.specs.declared.Edge.the-variants.{Count, Bad, End}
 unfoldable pub digit : ℕ → ℕ
 digit d = pick (ltb d 10) (48 + d) (55 + d)
 
--- "All other numbers are decimal." A number has fewer digits than it counts, or is one digit: `left` bounds the recursion only.
+-- "all other numbers are decimal". A number n has at most n digits, or is 0: `left` bounds the recursion only.
 unfoldable pub decimalIn : ℕ → ℕ → List ℕ
 decimalIn zero n = (48 + n % 10) ∷ []
 decimalIn (suc left) n = pick (ltb n 10) ((48 + n) ∷ []) (decimalIn left (n / 10) ++ ((48 + n % 10) ∷ []))
@@ -24,7 +24,7 @@ decimalIn (suc left) n = pick (ltb n 10) ((48 + n) ∷ []) (decimalIn left (n / 
 unfoldable pub decimal : ℕ → List ℕ
 decimal n = decimalIn n n
 
--- "Capital hexadecimal, two digits or more as needed."
+-- "Addresses and read bytes are in capital hexadecimal, two digits or more as needed".
 unfoldable pub twoDigits : ℕ → List ℕ
 twoDigits n = digit (n / 16 % 16) ∷ digit (n % 16) ∷ []
 
@@ -36,7 +36,7 @@ unfoldable pub hexadecimal : ℕ → List ℕ
 hexadecimal n = hexadecimalIn n n
 
 -- The words of a listing.
-abbrev pub newline : List ℕ  -- "line feed"
+abbrev pub newline : List ℕ  -- line feed
 newline = 10 ∷ []
 
 abbrev pub eventsText : List ℕ  -- "events "
@@ -118,13 +118,13 @@ edgeLine (End count) = endLine count
 
 -- ---- a line in lent room
 
--- No line is longer than this.
-abbrev pub longest : ℕ
-longest = 80
+-- No line is longer.
+abbrev pub longestLine : ℕ
+longestLine = 80
 
 -- A line is written where the longest one would fit; else it is refused and nothing is written.
 unfoldable pub holds : ℕ → ℕ → Bool
-holds room at = leb (at + longest) room
+holds room at = leb (at + longestLine) room
 
 -- The room with a line laid at a place, and the place behind it.
 unfoldable pub lineRoom : List ℕ → ℕ → List ℕ → List ℕ

@@ -15,7 +15,7 @@ pub enum Edge {
 }
 
 // No line is longer.
-const LONGEST: usize = 80;
+const LONGEST_LINE: usize = 80;
 
 // ---- texts and numerals: each is laid at a place, and the place behind it is the answer
 
@@ -209,10 +209,10 @@ fn put_newline(room: &mut [u8], at: usize) -> usize
 fn holds(room: usize, at: usize) -> bool
     ensures { λ r. ⌜ r ≡ rule.holds room at ⌝ }
 {
-    if room < LONGEST {
+    if room < LONGEST_LINE {
         return false;
     }
-    if room - LONGEST < at {
+    if room - LONGEST_LINE < at {
         return false;
     }
     true
@@ -222,7 +222,7 @@ fn holds(room: usize, at: usize) -> bool
 pub fn put_edge(room: &mut [u8], at: usize, l: Edge) -> usize
     ensures place { λ r. ⌜ r ≡ rule.linePlace (length (now (room .entry))) at (rule.edgeLine l) ⌝ }
     ensures room { λ r. ⌜ now (room .exit) ≡ rule.lineRoom (now (room .entry)) at (rule.edgeLine l) ⌝ }
-    ensures bound { λ r. ⌜ r ≤ at + rule.longest ⌝ }
+    ensures bound { λ r. ⌜ r ≤ at + rule.longestLine ⌝ }
 {
     if holds(room.len(), at) {
         let p = put_words(room, at, l);
@@ -235,7 +235,7 @@ pub fn put_edge(room: &mut [u8], at: usize, l: Edge) -> usize
 pub fn put_line(room: &mut [u8], at: usize, index: u16, e: Event, refused: u8, value: u8) -> usize
     ensures place { λ r. ⌜ r ≡ rule.linePlace (length (now (room .entry))) at (rule.line index e refused value) ⌝ }
     ensures room { λ r. ⌜ now (room .exit) ≡ rule.lineRoom (now (room .entry)) at (rule.line index e refused value) ⌝ }
-    ensures bound { λ r. ⌜ r ≤ at + rule.longest ⌝ }
+    ensures bound { λ r. ⌜ r ≤ at + rule.longestLine ⌝ }
 {
     if holds(room.len(), at) {
         let p = put_decimal(room, at, index as usize);

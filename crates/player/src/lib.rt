@@ -50,10 +50,10 @@ fn answer(m: &mut [u8; 256], k: Core, e: Event) -> CoreOutcome
 
 // An event, and its line at a place.
 fn play_event(m: &mut [u8; 256], k: Core, index: u16, e: Event, room: &mut [u8], at: usize) -> Step
-    requires { ⌜ at + text.longest ≤ length (now room) ⌝ }
+    requires { ⌜ at + text.longestLine ≤ length (now room) ⌝ }
     ensures state { λ r. ⌜ answers.controller (now (m .exit)) (r .core) ≡ (rule.answerTo (answers.controller (now (m .entry)) k) e) .next ⌝ }
     ensures laid { λ r. ⌜ Laid (now (room .entry)) at (text.line index e ((rule.answerTo (answers.controller (now (m .entry)) k) e) .refused) ((rule.answerTo (answers.controller (now (m .entry)) k) e) .value)) (now (room .exit)) (r .place) ⌝ }
-    ensures bound { λ r. ⌜ r .place ≤ at + text.longest ⌝ }
+    ensures bound { λ r. ⌜ r .place ≤ at + text.longestLine ⌝ }
 {
     let a = answer(m, k, e);
     let reply = a.reply;
@@ -66,13 +66,13 @@ fn play_event(m: &mut [u8; 256], k: Core, index: u16, e: Event, room: &mut [u8],
 
 // What follows the last event.
 fn put_closing(s: &[u8], from: usize, count: u16, room: &mut [u8], at: usize) -> usize
-    requires { ⌜ at + text.longest ≤ length (now room) ⌝ }
+    requires { ⌜ at + text.longestLine ≤ length (now room) ⌝ }
     ensures laid { λ r. ⌜ Laid (now (room .entry)) at (rule.closing count (reading.endAt (now (s .entry)) from)) (now (room .exit)) r ⌝ }
-    ensures bound { λ r. ⌜ r ≤ at + text.longest ⌝ }
+    ensures bound { λ r. ⌜ r ≤ at + text.longestLine ⌝ }
 {
     match session::end_at(s, from) {
         End::Clean => listing::put_edge(room, at, Edge::End(count)),
-        End::Bad(f, p) => listing::put_edge(room, at, Edge::Bad(session::code_of(f), p)),
+        End::Bad(f, p) => listing::put_edge(room, at, Edge::Bad(session::fault_number(f), p)),
     }
 }
 
@@ -93,7 +93,7 @@ fn play_events(s: &[u8], count: u16, first: usize, room: &mut [u8], at: usize) -
             Item::Bad(f, p) => return listing::put_edge(
                 room,
                 place,
-                Edge::Bad(session::code_of(f), p),
+                Edge::Bad(session::fault_number(f), p),
             ),
             Item::Next(e, next) => {
                 let x = play_event(&mut m, k, index, e, room, place);
@@ -114,7 +114,7 @@ fn put_listing(s: &[u8], room: &mut [u8]) -> usize
     ensures bound { λ r. ⌜ r ≤ 327840 ⌝ }
 {
     match session::header_at(s, 0) {
-        Header::Bad(f, p) => listing::put_edge(room, 0, Edge::Bad(session::code_of(f), p)),
+        Header::Bad(f, p) => listing::put_edge(room, 0, Edge::Bad(session::fault_number(f), p)),
         Header::Good(count, next) => {
             let at = listing::put_edge(room, 0, Edge::Count(count));
             play_events(s, count, next, room, at)

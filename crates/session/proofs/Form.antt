@@ -7,19 +7,19 @@ use borrow.Author.Tests.{ltb-false, eqb-true, eqb-false, le-ltb, ne-eqb}
 use lib.Dec.{ltb, eqb, lit≤}
 use lib.ListN.{length, drop, length-append, length-drop}
 use lib.Seq.{drop-drop, drop-append-seam, getD-drop}
-use Rattle.leb128.specs.Number as numbers
-use Rattle.leb128.specs.Number.{Bytes, number, written}
-use Rattle.leb128.proofs.GroupLaws.{either, written-some}
-use Rattle.leb128.proofs.RoundTrip.{reads-back, accepted}
+use Rattle.leb128.specs.Leb128 as leb128
+use Rattle.leb128.specs.Leb128.{Bytes, decode, uleb128}
+use Rattle.leb128.proofs.GroupLaws.{either, uleb128-some}
+use Rattle.leb128.proofs.RoundTrip.{complete, sound}
 use Rattle.session.specs.declared.Event.{Event}
 use Rattle.session.specs.declared.Event.the-variants.{Reset, Write, Read, Slot, Mark}
-use Rattle.session.specs.declared.Number.{Number}
-use Rattle.session.specs.declared.Number.the-variants.{Value, Bad as BadNumber}
+use Rattle.session.specs.declared.Varint.{Varint}
+use Rattle.session.specs.declared.Varint.the-variants.{Value, Bad as BadVarint}
 use Rattle.session.specs.declared.Header.{Header}
 use Rattle.session.specs.declared.Header.the-variants.{Good, Bad as BadHeader}
 use Rattle.session.specs.declared.Item.{Item}
 use Rattle.session.specs.declared.Item.the-variants.{Next, Bad as BadItem}
-use Rattle.session.specs.Reading.{placed, numberAt, counted, versioned, headerAt, valued, operands, kinded, eventAt}
+use Rattle.session.specs.Reading.{placed, varintAt, counted, versioned, headerAt, valued, operands, kinded, eventAt}
 use Rattle.session.specs.Writing.{eventBytes, Fits}
 
 -- The bytes w stand between the places at and next.
@@ -51,61 +51,61 @@ from-place : (s : List ℕ) (at : ℕ) → Bytes s → Bytes (drop at s)
 from-place s at b k = rw (getD-drop at s k 0) (b (at + k))
 
 -- A number is its written form; a fault has its place.
-unfoldable pub NumberIs : List ℕ → ℕ → Number → Type 0
-NumberIs s at (Value n next) = (n ≤ 65535) × Form s at (written n) next
-NumberIs s at (BadNumber f p) = p ≡ at
+unfoldable pub VarintIs : List ℕ → ℕ → Varint → Type 0
+VarintIs s at (Value n next) = (n ≤ 65535) × Form s at (uleb128 n) next
+VarintIs s at (BadVarint f p) = p ≡ at
 
-length-within : (s : List ℕ) (at n : ℕ) (u : List ℕ) → drop at s ≡ written n ++ u → length s - length u ≡ at + length (written n)
+length-within : (s : List ℕ) (at n : ℕ) (u : List ℕ) → drop at s ≡ uleb128 n ++ u → length s - length u ≡ at + length (uleb128 n)
 length-within s at n u e =
-    let l = sym (length-drop at s) ∙ ap length e ∙ length-append (written n) u in
-    let k = written-some n in
+    let l = sym (length-drop at s) ∙ ap length e ∙ length-append (uleb128 n) u in
+    let k = uleb128-some n in
     omega arith
 
-pub number-is : (s : List ℕ) (at : ℕ) → Bytes s → at ≤ length s → NumberIs s at (numberAt s at)
-unfolding numberAt placed NumberIs
-number-is s at b h = go (number (drop at s)) refl
+pub varint-is : (s : List ℕ) (at : ℕ) → Bytes s → at ≤ length s → VarintIs s at (varintAt s at)
+unfolding varintAt placed VarintIs
+varint-is s at b h = go (decode (drop at s)) refl
   where
-    go : (r : numbers.Read) → number (drop at s) ≡ r → NumberIs s at (placed s at r)
-    go (numbers.Number n u) e =
-        let a = accepted (drop at s) (from-place s at b) n u e in
-        (a .0, rw (length-within s at n u (a .1)) (stands s at (written n) u (a .1)))
-    go (numbers.Refused f) e = omega arith
+    go : (r : leb128.Parsed) → decode (drop at s) ≡ r → VarintIs s at (placed s at r)
+    go (leb128.Value n u) e =
+        let a = sound (drop at s) (from-place s at b) n u e in
+        (a .0, rw (length-within s at n u (a .1)) (stands s at (uleb128 n) u (a .1)))
+    go (leb128.Refused f) e = omega arith
 
-pub number-back : (s : List ℕ) (at n : ℕ) (u : List ℕ) → n ≤ 65535 → drop at s ≡ written n ++ u → numberAt s at ≡ Value n (at + length (written n))
-unfolding numberAt placed
-number-back s at n u h e = rw (e, reads-back n u h) (ap (Value n) (length-within s at n u e))
+pub varint-back : (s : List ℕ) (at n : ℕ) (u : List ℕ) → n ≤ 65535 → drop at s ≡ uleb128 n ++ u → varintAt s at ≡ Value n (at + length (uleb128 n))
+unfolding varintAt placed
+varint-back s at n u h e = rw (e, complete n u h) (ap (Value n) (length-within s at n u e))
 
 -- The header is version 1 and a count of at most `most`.
 unfoldable pub HeaderIs : ℕ → List ℕ → ℕ → Header → Type 0
-HeaderIs most s at (Good c next) = (c ≤ most) × (c ≤ 65535) × Form s at (written 1 ++ written c) next
+HeaderIs most s at (Good c next) = (c ≤ most) × (c ≤ 65535) × Form s at (uleb128 1 ++ uleb128 c) next
 HeaderIs most s at (BadHeader f p) = p ≤ length s
 
 module _ (most : ℕ) (s : List ℕ) (at : ℕ) (b : Bytes s) (h : at ≤ length s) where
-  counted-is : (next : ℕ) → Form s at (written 1) next → (r : Number) → NumberIs s next r → HeaderIs most s at (counted most next r)
-  unfolding counted NumberIs HeaderIs
-  counted-is next f (BadNumber g p) e = let k = within h f in omega arith
+  counted-is : (next : ℕ) → Form s at (uleb128 1) next → (r : Varint) → VarintIs s next r → HeaderIs most s at (counted most next r)
+  unfolding counted VarintIs HeaderIs
+  counted-is next f (BadVarint g p) e = let k = within h f in omega arith
   counted-is next f (Value c last) e = either (HeaderIs most s at) (ltb most c) (λ q. within h f) (λ q. (ltb-false most c q, e .0, onward f (e .1)))
 
-  versioned-is : (r : Number) → NumberIs s at r → HeaderIs most s at (versioned most s at r)
-  unfolding versioned NumberIs HeaderIs
-  versioned-is (BadNumber g p) e = omega arith
+  versioned-is : (r : Varint) → VarintIs s at r → HeaderIs most s at (versioned most s at r)
+  unfolding versioned VarintIs HeaderIs
+  versioned-is (BadVarint g p) e = omega arith
   versioned-is (Value v next) e =
       either (HeaderIs most s at) (eqb v 1)
-      (λ q. let f = rw (eqb-true v 1 q) at (e .1) in counted-is next f (numberAt s next) (number-is s next b (within h f)))
+      (λ q. let f = rw (eqb-true v 1 q) at (e .1) in counted-is next f (varintAt s next) (varint-is s next b (within h f)))
       (λ q. h)
 
   pub header-is : HeaderIs most s at (headerAt most s at)
   unfolding headerAt
-  header-is = versioned-is (numberAt s at) (number-is s at b h)
+  header-is = versioned-is (varintAt s at) (varint-is s at b h)
 
-pub header-back : (most : ℕ) (s : List ℕ) (at c : ℕ) (u : List ℕ) → c ≤ most → c ≤ 65535 → drop at s ≡ (written 1 ++ written c) ++ u
-    → headerAt most s at ≡ Good c (at + length (written 1 ++ written c))
+pub header-back : (most : ℕ) (s : List ℕ) (at c : ℕ) (u : List ℕ) → c ≤ most → c ≤ 65535 → drop at s ≡ (uleb128 1 ++ uleb128 c) ++ u
+    → headerAt most s at ≡ Good c (at + length (uleb128 1 ++ uleb128 c))
 unfolding headerAt versioned counted
 header-back most s at c u h k e =
-    let f = e ∙ append-assoc (written 1) (written c) u in
-    let g = drop-after s at (written 1) (written c ++ u) f in
-    let l : at + length (written 1) + length (written c) ≡ at + length (written 1 ++ written c) = omega (arith, length-append (written 1) (written c)) in
-    rw (number-back s at 1 (written c ++ u) (lit≤ tt) f, number-back s (at + length (written 1)) c u k g, le-ltb most c h, l)
+    let f = e ∙ append-assoc (uleb128 1) (uleb128 c) u in
+    let g = drop-after s at (uleb128 1) (uleb128 c ++ u) f in
+    let l : at + length (uleb128 1) + length (uleb128 c) ≡ at + length (uleb128 1 ++ uleb128 c) = omega (arith, length-append (uleb128 1) (uleb128 c)) in
+    rw (varint-back s at 1 (uleb128 c ++ u) (lit≤ tt) f, varint-back s (at + length (uleb128 1)) c u k g, le-ltb most c h, l)
 
 -- An event is its bytes; a fault stands at its place or after it.
 unfoldable pub ItemIs : List ℕ → ℕ → Item → Type 0
@@ -113,61 +113,61 @@ ItemIs s at (Next e next) = Fits e × Form s at (eventBytes e) next
 ItemIs s at (BadItem f p) = (at ≤ p) × (p ≤ length s)
 
 module _ (s : List ℕ) (at : ℕ) (b : Bytes s) (h : at ≤ length s) where
-  valued-is : (a next : ℕ) → a ≤ 65535 → Form s at (written 1 ++ written a) next → (r : Number) → NumberIs s next r → ItemIs s at (valued a r)
-  unfolding valued NumberIs ItemIs Fits eventBytes
-  valued-is a next k f (BadNumber g p) e = let l = within h f in let q = f .place in omega arith
+  valued-is : (a next : ℕ) → a ≤ 65535 → Form s at (uleb128 1 ++ uleb128 a) next → (r : Varint) → VarintIs s next r → ItemIs s at (valued a r)
+  unfolding valued VarintIs ItemIs Fits eventBytes
+  valued-is a next k f (BadVarint g p) e = let l = within h f in let q = f .place in omega arith
   valued-is a next k f (Value v last) e = ((k, e .0), onward f (e .1))
 
-  operands-is : (k next : ℕ) → (k ≡ 0 → ⊥) → k ≤ 4 → Form s at (written k) next → (r : Number) → NumberIs s next r → ItemIs s at (operands s k r)
-  unfolding operands NumberIs ItemIs Fits eventBytes
-  operands-is k next z l f (BadNumber g p) e = let w = within h f in let q = f .place in omega arith
+  operands-is : (k next : ℕ) → (k ≡ 0 → ⊥) → k ≤ 4 → Form s at (uleb128 k) next → (r : Varint) → VarintIs s next r → ItemIs s at (operands s k r)
+  unfolding operands VarintIs ItemIs Fits eventBytes
+  operands-is k next z l f (BadVarint g p) e = let w = within h f in let q = f .place in omega arith
   operands-is k next z l f (Value n last) e =
       let both = onward f (e .1) in
       either (ItemIs s at) (eqb k 1)
-      (λ q. let g = rw (eqb-true k 1 q) at both in valued-is n last (e .0) g (numberAt s last) (number-is s last b (within h g)))
+      (λ q. let g = rw (eqb-true k 1 q) at both in valued-is n last (e .0) g (varintAt s last) (varint-is s last b (within h g)))
       λ p. either (ItemIs s at) (eqb k 2) (λ q. (e .0, rw (eqb-true k 2 q) at both))
       λ q. either (ItemIs s at) (eqb k 3) (λ r. (e .0, rw (eqb-true k 3 r) at both))
       λ r. let m : k ≡ 4 = omega (arith, eqb-false k 1 p, eqb-false k 2 q, eqb-false k 3 r) in (e .0, rw m at both)
 
-  kinded-is : (r : Number) → NumberIs s at r → ItemIs s at (kinded s at r)
-  unfolding kinded NumberIs ItemIs Fits eventBytes
-  kinded-is (BadNumber g p) e = omega arith
+  kinded-is : (r : Varint) → VarintIs s at r → ItemIs s at (kinded s at r)
+  unfolding kinded VarintIs ItemIs Fits eventBytes
+  kinded-is (BadVarint g p) e = omega arith
   kinded-is (Value k next) e =
       either (ItemIs s at) (ltb 4 k) (λ p. omega arith)
       λ p. either (ItemIs s at) (eqb k 0) (λ q. (tt, rw (eqb-true k 0 q) at (e .1)))
-      λ q. operands-is k next (eqb-false k 0 q) (ltb-false 4 k p) (e .1) (numberAt s next) (number-is s next b (within h (e .1)))
+      λ q. operands-is k next (eqb-false k 0 q) (ltb-false 4 k p) (e .1) (varintAt s next) (varint-is s next b (within h (e .1)))
 
   pub event-is : ItemIs s at (eventAt s at)
   unfolding eventAt
-  event-is = kinded-is (numberAt s at) (number-is s at b h)
+  event-is = kinded-is (varintAt s at) (varint-is s at b h)
 
 module _ (s : List ℕ) (at : ℕ) (u : List ℕ) where
   -- the event's numbers once its kind is read
-  of-kind : (k : ℕ) (w : List ℕ) → (k ≡ 0 → ⊥) → k ≤ 4 → drop at s ≡ written k ++ w → eventAt s at ≡ operands s k (numberAt s (at + length (written k)))
+  of-kind : (k : ℕ) (w : List ℕ) → (k ≡ 0 → ⊥) → k ≤ 4 → drop at s ≡ uleb128 k ++ w → eventAt s at ≡ operands s k (varintAt s (at + length (uleb128 k)))
   unfolding eventAt kinded
-  of-kind k w z l e = rw (number-back s at k w (omega arith) e, le-ltb 4 k l, ne-eqb k 0 z)
+  of-kind k w z l e = rw (varint-back s at k w (omega arith) e, le-ltb 4 k l, ne-eqb k 0 z)
 
   -- an event of one number n
-  of-one : (k n : ℕ) → (k ≡ 0 → ⊥) → k ≤ 4 → n ≤ 65535 → drop at s ≡ (written k ++ written n) ++ u
-      → eventAt s at ≡ operands s k (Value n (at + length (written k ++ written n)))
+  of-one : (k n : ℕ) → (k ≡ 0 → ⊥) → k ≤ 4 → n ≤ 65535 → drop at s ≡ (uleb128 k ++ uleb128 n) ++ u
+      → eventAt s at ≡ operands s k (Value n (at + length (uleb128 k ++ uleb128 n)))
   of-one k n z l h e =
-      let f = e ∙ append-assoc (written k) (written n) u in
-      let g = drop-after s at (written k) (written n ++ u) f in
-      let m : at + length (written k) + length (written n) ≡ at + length (written k ++ written n) = omega (arith, length-append (written k) (written n)) in
-      of-kind k (written n ++ u) z l f ∙ rw (number-back s (at + length (written k)) n u h g, m)
+      let f = e ∙ append-assoc (uleb128 k) (uleb128 n) u in
+      let g = drop-after s at (uleb128 k) (uleb128 n ++ u) f in
+      let m : at + length (uleb128 k) + length (uleb128 n) ≡ at + length (uleb128 k ++ uleb128 n) = omega (arith, length-append (uleb128 k) (uleb128 n)) in
+      of-kind k (uleb128 n ++ u) z l f ∙ rw (varint-back s (at + length (uleb128 k)) n u h g, m)
 
-  of-none : drop at s ≡ written 0 ++ u → eventAt s at ≡ Next Reset (at + length (written 0))
+  of-none : drop at s ≡ uleb128 0 ++ u → eventAt s at ≡ Next Reset (at + length (uleb128 0))
   unfolding eventAt kinded
-  of-none e = rw (number-back s at 0 u (lit≤ tt) e)
+  of-none e = rw (varint-back s at 0 u (lit≤ tt) e)
 
 pub event-back : (s : List ℕ) (at : ℕ) (u : List ℕ) (e : Event) → Fits e → drop at s ≡ eventBytes e ++ u → eventAt s at ≡ Next e (at + length (eventBytes e))
 unfolding eventBytes Fits operands valued
 event-back s at u Reset h e = of-none s at u e
 event-back s at u (Write a v) h e =
-    let f = e ∙ append-assoc (written 1 ++ written a) (written v) u in
-    let g = drop-after s at (written 1 ++ written a) (written v ++ u) f in
-    let m : at + length (written 1 ++ written a) + length (written v) ≡ at + length (written 1 ++ written a ++ written v) = omega (arith, length-append (written 1 ++ written a) (written v)) in
-    of-one s at (written v ++ u) 1 a (λ (q : 1 ≡ 0). omega arith) (lit≤ tt) (h .0) f ∙ rw (number-back s (at + length (written 1 ++ written a)) v u (h .1) g, m)
+    let f = e ∙ append-assoc (uleb128 1 ++ uleb128 a) (uleb128 v) u in
+    let g = drop-after s at (uleb128 1 ++ uleb128 a) (uleb128 v ++ u) f in
+    let m : at + length (uleb128 1 ++ uleb128 a) + length (uleb128 v) ≡ at + length (uleb128 1 ++ uleb128 a ++ uleb128 v) = omega (arith, length-append (uleb128 1 ++ uleb128 a) (uleb128 v)) in
+    of-one s at (uleb128 v ++ u) 1 a (λ (q : 1 ≡ 0). omega arith) (lit≤ tt) (h .0) f ∙ rw (varint-back s (at + length (uleb128 1 ++ uleb128 a)) v u (h .1) g, m)
 event-back s at u (Read n) h e = of-one s at u 2 n (λ (q : 2 ≡ 0). omega arith) (lit≤ tt) h e
 event-back s at u (Slot n) h e = of-one s at u 3 n (λ (q : 3 ≡ 0). omega arith) (lit≤ tt) h e
 event-back s at u (Mark n) h e = of-one s at u 4 n (λ (q : 4 ≡ 0). omega arith) (lit≤ tt) h e

@@ -4,12 +4,12 @@ use mathlib.Core.List.{List, [], _++_, append-nil}
 use mathlib.Core.Path.{_≡_, refl, ap, sym, _∙_}
 use native.Mathlib.Omega.{arith}
 use lib.ListN.{length, take}
-use Rattle.leb128.specs.Number.{Bytes, written, groupsOf}
+use Rattle.leb128.specs.Leb128.{Bytes, uleb128, groupsOf}
 use Rattle.session.specs.declared.Fault.{Fault}
 use Rattle.session.specs.declared.Event.{Event}
 use Rattle.session.specs.declared.End.{End}
 use Rattle.session.specs.declared.End.the-variants.{Clean, Bad}
-use Rattle.session.specs.Reading.{longest, Events, Reading, NoHeader, Counted, session}
+use Rattle.session.specs.Reading.{mostEvents, Events, Reading, NoHeader, Counted, session}
 use Rattle.session.specs.Claims.{Ended, Answered, Begins, Settled, Good}
 use Rattle.session.specs.Writing.{sessionBytes, AllFit}
 use Rattle.session.proofs.Walk.{none-due}
@@ -42,9 +42,9 @@ pub stands : (most : ℕ) (s t : List ℕ) → Bytes s → Settled (session most
 stands most s t b i = session-stands most s t b i
 
 -- It is good exactly if it is the written form of at most `most` events whose numbers fit.
-pub determined : (most : ℕ) (s : List ℕ) → Bytes s → (es : List Event) → Good most s es → (length es ≤ most) × AllFit es × (s ≡ sessionBytes es)
+pub sound : (most : ℕ) (s : List ℕ) → Bytes s → (es : List Event) → Good most s es → (length es ≤ most) × AllFit es × (s ≡ sessionBytes es)
 unfolding sessionBytes
-determined most s b es e =
+sound most s b es e =
     let w = whole most s b (length es) (record { events = es; end = Clean }) e in
     (w .most-due, w .read .fit, all most s b (length es) (record { events = es; end = Clean }) e refl)
 
@@ -56,9 +56,9 @@ complete most es h k fit =
     ∙ ap (Counted (length es)) (rw (z, none-due, append-nil, at-end))
 
 -- It has at most so many bytes.
-pub size : (most : ℕ) (s : List ℕ) → Bytes s → (es : List Event) → Good most s es → length s ≤ 1 + length (written most) + 7 * most
-size most s b es e = let d = determined most s b es e in rw (d .2) (bound most es (d .0))
+pub size : (most : ℕ) (s : List ℕ) → Bytes s → (es : List Event) → Good most s es → length s ≤ 1 + length (uleb128 most) + 7 * most
+size most s b es e = let d = sound most s b es e in rw (d .2) (bound most es (d .0))
 
-pub longest-size : 1 + length (written longest) + 7 * longest ≡ 28675
-unfolding written groupsOf
-longest-size = refl
+pub largest-size : 1 + length (uleb128 mostEvents) + 7 * mostEvents ≡ 28675
+unfolding uleb128 groupsOf
+largest-size = refl

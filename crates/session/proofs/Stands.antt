@@ -8,26 +8,26 @@ use borrow.Author.Tests.{ltb-true, lt-ltb}
 use lib.Dec.{ltb, eqb}
 use lib.ListN.{length, drop, length-append}
 use lib.Seq.{drop-append-le}
-use Rattle.leb128.specs.Number as numbers
-use Rattle.leb128.specs.Number.{pick, Bytes, number}
-use Rattle.leb128.proofs.GroupLaws.{followed, number-followed}
+use Rattle.leb128.specs.Leb128 as leb128
+use Rattle.leb128.specs.Leb128.{pick, Bytes, decode}
+use Rattle.leb128.proofs.GroupLaws.{followed, decode-followed}
 use Rattle.session.specs.declared.Fault.{Fault}
 use Rattle.session.specs.declared.Fault.the-variants.{Cut, LeftOver}
-use Rattle.session.specs.declared.Number.{Number}
-use Rattle.session.specs.declared.Number.the-variants.{Value, Bad as BadNumber}
+use Rattle.session.specs.declared.Varint.{Varint}
+use Rattle.session.specs.declared.Varint.the-variants.{Value, Bad as BadVarint}
 use Rattle.session.specs.declared.Header.{Header}
 use Rattle.session.specs.declared.Header.the-variants.{Good, Bad as BadHeader}
 use Rattle.session.specs.declared.Item.{Item}
 use Rattle.session.specs.declared.Item.the-variants.{Next, Bad as BadItem}
 use Rattle.session.specs.declared.End.{End}
 use Rattle.session.specs.declared.End.the-variants.{Clean, Bad as BadEnd}
-use Rattle.session.specs.Reading.{refusal, placed, numberAt, counted, versioned, headerAt, valued, operands, kinded, eventAt, endAt, Events, follow, eventsAt, Reading, NoHeader, Counted, started, session}
+use Rattle.session.specs.Reading.{refusal, placed, varintAt, counted, versioned, headerAt, valued, operands, kinded, eventAt, endAt, Events, follow, eventsAt, Reading, NoHeader, Counted, started, session}
 use Rattle.session.specs.Claims.{NotCut, EndStands, Settled}
-use Rattle.session.proofs.Form.{within, NumberIs, number-is, HeaderIs, header-is, ItemIs, event-is}
+use Rattle.session.proofs.Form.{within, VarintIs, varint-is, HeaderIs, header-is, ItemIs, event-is}
 
-unfoldable NumberStands : Number → Type 0
-NumberStands (Value n next) = Unit {0}
-NumberStands (BadNumber f p) = NotCut f
+unfoldable VarintStands : Varint → Type 0
+VarintStands (Value n next) = Unit {0}
+VarintStands (BadVarint f p) = NotCut f
 
 unfoldable HeaderStands : Header → Type 0
 HeaderStands (Good c next) = Unit {0}
@@ -47,66 +47,66 @@ other-way P true i j j′ h p = refl
 other-way P false i j j′ h p = h p
 
 module _ (s t : List ℕ) where
-  placed-stands : (at : ℕ) → at ≤ length s → (r : numbers.Read) → placed (s ++ t) at (followed r t) ≡ placed s at r
+  placed-stands : (at : ℕ) → at ≤ length s → (r : leb128.Parsed) → placed (s ++ t) at (followed r t) ≡ placed s at r
   unfolding placed followed
-  placed-stands at h (numbers.Number v rest) =
+  placed-stands at h (leb128.Value v rest) =
       ap (Value v) (omega (arith, length-append s t, length-append rest t))
-  placed-stands at h (numbers.Refused f) = ap (BadNumber (refusal f)) (omega (arith, length-append s t))
+  placed-stands at h (leb128.Refused f) = ap (BadVarint (refusal f)) (omega (arith, length-append s t))
 
-  number-stands : (at : ℕ) → at ≤ length s → NumberStands (numberAt s at) → numberAt (s ++ t) at ≡ numberAt s at
-  unfolding numberAt placed refusal NumberStands
-  number-stands at h stands =
-      rw (drop-append-le at s t h, number-followed (drop at s) t (λ (q : number (drop at s) ≡ numbers.Refused numbers.Cut). (rw q at stands) refl))
-      (placed-stands at h (number (drop at s)))
+  varint-stands : (at : ℕ) → at ≤ length s → VarintStands (varintAt s at) → varintAt (s ++ t) at ≡ varintAt s at
+  unfolding varintAt placed refusal VarintStands
+  varint-stands at h stands =
+      rw (drop-append-le at s t h, decode-followed (drop at s) t (λ (q : decode (drop at s) ≡ leb128.Refused leb128.Cut). (rw q at stands) refl))
+      (placed-stands at h (decode (drop at s)))
 
-  valued-stands : (a at : ℕ) → at ≤ length s → ItemStands (valued a (numberAt s at)) → valued a (numberAt (s ++ t) at) ≡ valued a (numberAt s at)
-  unfolding valued ItemStands NumberStands
-  valued-stands a at h i = ap (valued a) (number-stands at h (of-number (numberAt s at) i))
+  valued-stands : (a at : ℕ) → at ≤ length s → ItemStands (valued a (varintAt s at)) → valued a (varintAt (s ++ t) at) ≡ valued a (varintAt s at)
+  unfolding valued ItemStands VarintStands
+  valued-stands a at h i = ap (valued a) (varint-stands at h (of-varint (varintAt s at) i))
     where
-      of-number : (r : Number) → ItemStands (valued a r) → NumberStands r
-      of-number (Value v next) k = tt
-      of-number (BadNumber f p) k = k
+      of-varint : (r : Varint) → ItemStands (valued a r) → VarintStands r
+      of-varint (Value v next) k = tt
+      of-varint (BadVarint f p) k = k
 
   module _ (b : Bytes s) where
-    operands-stand : (k at : ℕ) → at ≤ length s → ItemStands (operands s k (numberAt s at)) → operands (s ++ t) k (numberAt (s ++ t) at) ≡ operands s k (numberAt s at)
-    unfolding operands ItemStands NumberStands NumberIs
-    operands-stand k at h i = ap (operands (s ++ t) k) (number-stands at h (of-number (numberAt s at) i)) ∙ same (numberAt s at) (number-is s at b h) i
+    operands-stand : (k at : ℕ) → at ≤ length s → ItemStands (operands s k (varintAt s at)) → operands (s ++ t) k (varintAt (s ++ t) at) ≡ operands s k (varintAt s at)
+    unfolding operands ItemStands VarintStands VarintIs
+    operands-stand k at h i = ap (operands (s ++ t) k) (varint-stands at h (of-varint (varintAt s at) i)) ∙ same (varintAt s at) (varint-is s at b h) i
       where
-        of-number : (r : Number) → ItemStands (operands s k r) → NumberStands r
-        of-number (Value n next) l = tt
-        of-number (BadNumber f p) l = l
+        of-varint : (r : Varint) → ItemStands (operands s k r) → VarintStands r
+        of-varint (Value n next) l = tt
+        of-varint (BadVarint f p) l = l
 
-        same : (r : Number) → NumberIs s at r → ItemStands (operands s k r) → operands (s ++ t) k r ≡ operands s k r
+        same : (r : Varint) → VarintIs s at r → ItemStands (operands s k r) → operands (s ++ t) k r ≡ operands s k r
         same (Value n next) e l = first-way ItemStands (eqb k 1) _ _ _ (valued-stands n next (within h (e .1))) l
-        same (BadNumber f p) e l = refl
+        same (BadVarint f p) e l = refl
 
     event-stands : (at : ℕ) → at ≤ length s → ItemStands (eventAt s at) → eventAt (s ++ t) at ≡ eventAt s at
-    unfolding eventAt kinded ItemStands NumberStands NumberIs
-    event-stands at h i = ap (kinded (s ++ t) at) (number-stands at h (of-number (numberAt s at) i)) ∙ same (numberAt s at) (number-is s at b h) i
+    unfolding eventAt kinded ItemStands VarintStands VarintIs
+    event-stands at h i = ap (kinded (s ++ t) at) (varint-stands at h (of-varint (varintAt s at) i)) ∙ same (varintAt s at) (varint-is s at b h) i
       where
-        of-number : (r : Number) → ItemStands (kinded s at r) → NumberStands r
-        of-number (Value k next) l = tt
-        of-number (BadNumber f p) l = l
+        of-varint : (r : Varint) → ItemStands (kinded s at r) → VarintStands r
+        of-varint (Value k next) l = tt
+        of-varint (BadVarint f p) l = l
 
-        same : (r : Number) → NumberIs s at r → ItemStands (kinded s at r) → kinded (s ++ t) at r ≡ kinded s at r
+        same : (r : Varint) → VarintIs s at r → ItemStands (kinded s at r) → kinded (s ++ t) at r ≡ kinded s at r
         same (Value k next) e l = other-way ItemStands (ltb 4 k) _ _ _ (other-way ItemStands (eqb k 0) _ _ _ (operands-stand k next (within h (e .1)))) l
-        same (BadNumber f p) e l = refl
+        same (BadVarint f p) e l = refl
 
     header-stands : (most at : ℕ) → at ≤ length s → HeaderStands (headerAt most s at) → headerAt most (s ++ t) at ≡ headerAt most s at
-    unfolding headerAt versioned counted HeaderStands NumberStands NumberIs
-    header-stands most at h i = ap (versioned most (s ++ t) at) (number-stands at h (of-number (numberAt s at) i)) ∙ same (numberAt s at) (number-is s at b h) i
+    unfolding headerAt versioned counted HeaderStands VarintStands VarintIs
+    header-stands most at h i = ap (versioned most (s ++ t) at) (varint-stands at h (of-varint (varintAt s at) i)) ∙ same (varintAt s at) (varint-is s at b h) i
       where
-        of-number : (r : Number) → HeaderStands (versioned most s at r) → NumberStands r
-        of-number (Value v next) l = tt
-        of-number (BadNumber f p) l = l
+        of-varint : (r : Varint) → HeaderStands (versioned most s at r) → VarintStands r
+        of-varint (Value v next) l = tt
+        of-varint (BadVarint f p) l = l
 
-        of-count : (next : ℕ) (r : Number) → HeaderStands (counted most next r) → NumberStands r
+        of-count : (next : ℕ) (r : Varint) → HeaderStands (counted most next r) → VarintStands r
         of-count next (Value c last) l = tt
-        of-count next (BadNumber f p) l = l
+        of-count next (BadVarint f p) l = l
 
-        same : (r : Number) → NumberIs s at r → HeaderStands (versioned most s at r) → versioned most (s ++ t) at r ≡ versioned most s at r
-        same (Value v next) e l = first-way HeaderStands (eqb v 1) _ _ _ (λ m. ap (counted most next) (number-stands next (within h (e .1)) (of-count next (numberAt s next) m))) l
-        same (BadNumber f p) e l = refl
+        same : (r : Varint) → VarintIs s at r → HeaderStands (versioned most s at r) → versioned most (s ++ t) at r ≡ versioned most s at r
+        same (Value v next) e l = first-way HeaderStands (eqb v 1) _ _ _ (λ m. ap (counted most next) (varint-stands next (within h (e .1)) (of-count next (varintAt s next) m))) l
+        same (BadVarint f p) e l = refl
 
     end-stands : (at : ℕ) → EndStands (endAt s at) → endAt (s ++ t) at ≡ endAt s at
     unfolding endAt EndStands

@@ -8,8 +8,8 @@ use borrow.Author.Tests.{ltb-false, le-ltb}
 use lib.Dec.{ltb, lit<}
 use lib.ListN.{length, drop, take, length-append, drop-of-length-le}
 use lib.Seq.{take-append-add}
-use Rattle.leb128.specs.Number.{Bytes, written}
-use Rattle.leb128.proofs.GroupLaws.{either, written-small, written-most, written-grows}
+use Rattle.leb128.specs.Leb128.{Bytes, uleb128}
+use Rattle.leb128.proofs.GroupLaws.{either, uleb128-small, uleb128-most, uleb128-grows}
 use Rattle.session.specs.declared.Fault.{Fault}
 use Rattle.session.specs.declared.Event.{Event}
 use Rattle.session.specs.declared.Event.the-variants.{Reset, Write, Read, Slot, Mark}
@@ -67,7 +67,7 @@ pub record Whole (most : ℕ) (s : List ℕ) (c : ℕ) (r : Events) : Type 0 whe
   pub most-due : c ≤ most
   pub count-fits : c ≤ 65535
   pub first : ℕ
-  pub header : Form s 0 (written 1 ++ written c) first
+  pub header : Form s 0 (uleb128 1 ++ uleb128 c) first
   pub read : EventsAre c s first r
 
 unfoldable pub SessionIs : ℕ → List ℕ → Reading → Type 0
@@ -104,15 +104,15 @@ events-back (v ∷ es) j s at u h e =
     let m : at + length (eventBytes v) + length (eventsBytes es) ≡ at + length (eventBytes v ++ eventsBytes es) = omega (arith, length-append (eventBytes v) (eventsBytes es)) in
     rw (suc-add, goes-on s at (length es + j) (event-back s at (eventsBytes es ++ u) v (h .0) f), i, m)
 
-module _ (most c : ℕ) (s u : List ℕ) (es : List Event) (h : c ≤ most) (k : c ≤ 65535) (fit : AllFit es) (n : length es ≤ c) (e : s ≡ written 1 ++ written c ++ eventsBytes es ++ u) where
-  pub begins : session most s ≡ Counted c (prepend es (eventsAt (c - length es) s (length (written 1 ++ written c ++ eventsBytes es))))
+module _ (most c : ℕ) (s u : List ℕ) (es : List Event) (h : c ≤ most) (k : c ≤ 65535) (fit : AllFit es) (n : length es ≤ c) (e : s ≡ uleb128 1 ++ uleb128 c ++ eventsBytes es ++ u) where
+  pub begins : session most s ≡ Counted c (prepend es (eventsAt (c - length es) s (length (uleb128 1 ++ uleb128 c ++ eventsBytes es))))
   begins =
-      let f = e ∙ append-assoc (written 1 ++ written c) (eventsBytes es) u in
-      let g = drop-after s 0 (written 1 ++ written c) (eventsBytes es ++ u) f in
+      let f = e ∙ append-assoc (uleb128 1 ++ uleb128 c) (eventsBytes es) u in
+      let g = drop-after s 0 (uleb128 1 ++ uleb128 c) (eventsBytes es ++ u) f in
       let d : c ≡ length es + (c - length es) = omega arith in
-      let i = events-back es (c - length es) s (0 + length (written 1 ++ written c)) u fit g in
-      let m : 0 + length (written 1 ++ written c) + length (eventsBytes es) ≡ length (written 1 ++ written c ++ eventsBytes es) = omega (arith, length-append (written 1 ++ written c) (eventsBytes es)) in
-      counts most s (header-back most s 0 c (eventsBytes es ++ u) h k f) ∙ ap (Counted c) (ap (λ (x : ℕ). eventsAt x s (0 + length (written 1 ++ written c))) d ∙ i ∙ rw m)
+      let i = events-back es (c - length es) s (0 + length (uleb128 1 ++ uleb128 c)) u fit g in
+      let m : 0 + length (uleb128 1 ++ uleb128 c) + length (eventsBytes es) ≡ length (uleb128 1 ++ uleb128 c ++ eventsBytes es) = omega (arith, length-append (uleb128 1 ++ uleb128 c) (eventsBytes es)) in
+      counts most s (header-back most s 0 c (eventsBytes es ++ u) h k f) ∙ ap (Counted c) (ap (λ (x : ℕ). eventsAt x s (0 + length (uleb128 1 ++ uleb128 c))) d ∙ i ∙ rw m)
 
 bad-end : (due : ℕ) (s : List ℕ) (m n : ℕ) (x : End) (f : Fault) (p : ℕ) → x ≡ BadEnd f p → EndIs due s m n x → (n ≤ due) × (m ≤ p) × (p ≤ length s)
 unfolding EndIs
@@ -128,7 +128,7 @@ module _ (most : ℕ) (s : List ℕ) (b : Bytes s) (c : ℕ) (r : Events) (e : s
   w = whole most s b c r e
 
   abbrev front : List ℕ
-  front = written 1 ++ written c ++ eventsBytes (r .events)
+  front = uleb128 1 ++ uleb128 c ++ eventsBytes (r .events)
 
   form : Form s 0 front (w .read .last)
   form = onward (w .header) (w .read .form)
@@ -154,13 +154,13 @@ module _ (most : ℕ) (s : List ℕ) (b : Bytes s) (c : ℕ) (r : Events) (e : s
       form .bytes ∙ ap (λ (l : List ℕ). front ++ l) z ∙ append-nil front
 
 -- How long a written session is.
-one-size : (k n : ℕ) → k < 128 → length (written k ++ written n) ≤ 4
-one-size k n h = let l = written-most n in let m = written-small k h in omega (arith, length-append (written k) (written n))
+one-size : (k n : ℕ) → k < 128 → length (uleb128 k ++ uleb128 n) ≤ 4
+one-size k n h = let l = uleb128-most n in let m = uleb128-small k h in omega (arith, length-append (uleb128 k) (uleb128 n))
 
 event-size : (e : Event) → length (eventBytes e) ≤ 7
 unfolding eventBytes
-event-size Reset = let l = written-most 0 in omega arith
-event-size (Write a v) = let k = one-size 1 a (lit< tt) in let l = written-most v in omega (arith, length-append (written 1 ++ written a) (written v))
+event-size Reset = let l = uleb128-most 0 in omega arith
+event-size (Write a v) = let k = one-size 1 a (lit< tt) in let l = uleb128-most v in omega (arith, length-append (uleb128 1 ++ uleb128 a) (uleb128 v))
 event-size (Read n) = let k = one-size 2 n (lit< tt) in omega arith
 event-size (Slot n) = let k = one-size 3 n (lit< tt) in omega arith
 event-size (Mark n) = let k = one-size 4 n (lit< tt) in omega arith
@@ -170,13 +170,13 @@ unfolding eventsBytes
 events-size [] = omega arith
 events-size (e ∷ es) = let h = event-size e in let k = events-size es in omega (arith, length-append (eventBytes e) (eventsBytes es))
 
-pub bound : (most : ℕ) (es : List Event) → length es ≤ most → length (sessionBytes es) ≤ 1 + length (written most) + 7 * most
+pub bound : (most : ℕ) (es : List Event) → length es ≤ most → length (sessionBytes es) ≤ 1 + length (uleb128 most) + 7 * most
 unfolding sessionBytes
 bound most es h =
-    let k = written-grows (length es) most h in
+    let k = uleb128-grows (length es) most h in
     let l = events-size es in
-    let m = written-small 1 (lit< tt) in
-    omega (arith, length-append (written 1 ++ written (length es)) (eventsBytes es), length-append (written 1) (written (length es)))
+    let m = uleb128-small 1 (lit< tt) in
+    omega (arith, length-append (uleb128 1 ++ uleb128 (length es)) (eventsBytes es), length-append (uleb128 1) (uleb128 (length es)))
 
 pub at-end : (s : List ℕ) → endAt s (length s) ≡ Clean
 unfolding endAt

@@ -4,10 +4,10 @@ use mathlib.Core.Path.{_≡_}
 use Rattle.session.specs.declared.Fault.the-variants.{Cut}
 use Rattle.session.specs.declared.Event.the-variants.{Reset, Write, Read}
 use Rattle.session.specs.declared.End.the-variants.{Clean}
-use Rattle.session.specs.Reading.{faultNumber, longest, NoHeader, Counted, session}
+use Rattle.session.specs.Reading.{faultNumber, mostEvents, NoHeader, Counted, session}
 
 pub record Cases : Type 0 where
-  pub empty : session longest [] ≡ NoHeader Cut 0
+  pub empty : session mostEvents [] ≡ NoHeader Cut 0
   pub cut : faultNumber Cut ≡ 30
-  pub listing : session longest (0x01 ∷ 0x03 ∷ 0x00 ∷ 0x02 ∷ 0x04 ∷ 0x01 ∷ 0x80 ∷ 0x01 ∷ 0x05 ∷ [])
+  pub listing : session mostEvents (0x01 ∷ 0x03 ∷ 0x00 ∷ 0x02 ∷ 0x04 ∷ 0x01 ∷ 0x80 ∷ 0x01 ∷ 0x05 ∷ [])
       ≡ Counted 3 (record { events = Reset ∷ Read 4 ∷ Write 128 5 ∷ []; end = Clean })

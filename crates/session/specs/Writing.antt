@@ -2,25 +2,25 @@
 use Prim.Native.Nat.{ℕ, _≤_}
 use mathlib.Core.List.{List, [], _∷_, _++_}
 use lib.ListN.{length}
-use Rattle.leb128.specs.Number.{written}
+use Rattle.leb128.specs.Leb128.{uleb128}
 use Rattle.session.specs.declared.Event.{Event}
 use Rattle.session.specs.declared.Event.the-variants.{Reset, Write, Read, Slot, Mark}
 
--- "0 pin reset; 1 address, value; 2 address; 3 levels; 4 a mark."
+-- The kind, then the numbers that it has, each in LEB128.
 unfoldable pub eventBytes : Event → List ℕ
-eventBytes Reset = written 0
-eventBytes (Write address value) = written 1 ++ written address ++ written value
-eventBytes (Read address) = written 2 ++ written address
-eventBytes (Slot levels) = written 3 ++ written levels
-eventBytes (Mark n) = written 4 ++ written n
+eventBytes Reset = uleb128 0
+eventBytes (Write address value) = uleb128 1 ++ uleb128 address ++ uleb128 value
+eventBytes (Read address) = uleb128 2 ++ uleb128 address
+eventBytes (Slot levels) = uleb128 3 ++ uleb128 levels
+eventBytes (Mark n) = uleb128 4 ++ uleb128 n
 
 unfoldable pub eventsBytes : List Event → List ℕ
 eventsBytes [] = []
 eventsBytes (e ∷ es) = eventBytes e ++ eventsBytes es
 
--- "Version 1, count, events."
+-- "version 1, count, events"
 unfoldable pub sessionBytes : List Event → List ℕ
-sessionBytes es = (written 1 ++ written (length es)) ++ eventsBytes es
+sessionBytes es = (uleb128 1 ++ uleb128 (length es)) ++ eventsBytes es
 
 -- An event's numbers are at most 65,535.
 unfoldable pub Fits : Event → Type 0

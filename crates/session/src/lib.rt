@@ -23,8 +23,8 @@ pub enum Event {
     Mark(u16),
 }
 
-// In each of these: what was read, with the place after it, or the fault and its place.
-pub enum Number {
+// In each of these: what was read, with the place after it, or the fault and its place. A varint is a number in LEB128.
+pub enum Varint {
     Value(u16, usize),
     Bad(Fault, usize),
 }
@@ -46,10 +46,10 @@ pub enum End {
 }
 
 // The largest count.
-const LONGEST: u16 = 4096;
+const MOST_EVENTS: u16 = 4096;
 
 // The number of a fault.
-pub fn code_of(f: Fault) -> u8
+pub fn fault_number(f: Fault) -> u8
     ensures { λ r. ⌜ r ≡ rule.faultNumber f ⌝ }
 {
     match f {
@@ -64,34 +64,34 @@ pub fn code_of(f: Fault) -> u8
 }
 
 // The number at a place; a number of one group needs no reader. A place past the end is the end.
-fn number_at(s: &[u8], at: usize) -> Number
-    ensures { λ r. ⌜ r ≡ rule.numberAt (now (s .entry)) at ⌝ }
+fn varint_at(s: &[u8], at: usize) -> Varint
+    ensures { λ r. ⌜ r ≡ rule.varintAt (now (s .entry)) at ⌝ }
 {
     if s.len() <= at {
-        return Number::Bad(Fault::Cut, s.len());
+        return Varint::Bad(Fault::Cut, s.len());
     }
     let b = s[at];
     if b < 128 {
-        return Number::Value(b as u16, at + 1);
+        return Varint::Value(b as u16, at + 1);
     }
     let mut value = 0u16;
     let mut fault = 0u8;
     let rest = leb128::read(&s[at..], &mut value, &mut fault);
     match fault {
-        0 => Number::Value(value, s.len() - rest.len()),
-        30 => Number::Bad(Fault::Cut, at),
-        31 => Number::Bad(Fault::NotShortest, at),
-        _ => Number::Bad(Fault::TooLarge, at),
+        0 => Varint::Value(value, s.len() - rest.len()),
+        30 => Varint::Bad(Fault::Cut, at),
+        31 => Varint::Bad(Fault::NotShortest, at),
+        _ => Varint::Bad(Fault::TooLarge, at),
     }
 }
 
 // The header at a place: version and count.
 pub fn header_at(s: &[u8], at: usize) -> Header
-    ensures { λ r. ⌜ r ≡ rule.headerAt rule.longest (now (s .entry)) at ⌝ }
+    ensures { λ r. ⌜ r ≡ rule.headerAt rule.mostEvents (now (s .entry)) at ⌝ }
 {
-    match number_at(s, at) {
-        Number::Bad(f, p) => Header::Bad(f, p),
-        Number::Value(version, next) => {
+    match varint_at(s, at) {
+        Varint::Bad(f, p) => Header::Bad(f, p),
+        Varint::Value(version, next) => {
             if version == 1 {
                 count_at(s, next)
             } else {
@@ -102,12 +102,12 @@ pub fn header_at(s: &[u8], at: usize) -> Header
 }
 
 fn count_at(s: &[u8], at: usize) -> Header
-    ensures { λ r. ⌜ r ≡ rule.counted rule.longest at (rule.numberAt (now (s .entry)) at) ⌝ }
+    ensures { λ r. ⌜ r ≡ rule.counted rule.mostEvents at (rule.varintAt (now (s .entry)) at) ⌝ }
 {
-    match number_at(s, at) {
-        Number::Bad(f, p) => Header::Bad(f, p),
-        Number::Value(count, next) => {
-            if LONGEST < count {
+    match varint_at(s, at) {
+        Varint::Bad(f, p) => Header::Bad(f, p),
+        Varint::Value(count, next) => {
+            if MOST_EVENTS < count {
                 Header::Bad(Fault::Count, at)
             } else {
                 Header::Good(count, next)
@@ -120,15 +120,15 @@ fn count_at(s: &[u8], at: usize) -> Header
 pub fn event_at(s: &[u8], at: usize) -> Item
     ensures { λ r. ⌜ r ≡ rule.eventAt (now (s .entry)) at ⌝ }
 {
-    match number_at(s, at) {
-        Number::Bad(f, p) => Item::Bad(f, p),
-        Number::Value(kind, next) => of_kind(s, at, kind, next),
+    match varint_at(s, at) {
+        Varint::Bad(f, p) => Item::Bad(f, p),
+        Varint::Value(kind, next) => of_kind(s, at, kind, next),
     }
 }
 
 // The event at a place once its kind is read: its numbers follow.
 fn of_kind(s: &[u8], at: usize, kind: u16, next: usize) -> Item
-    ensures { λ r. ⌜ r ≡ rule.kinded (now (s .entry)) at (Number.Value kind next) ⌝ }
+    ensures { λ r. ⌜ r ≡ rule.kinded (now (s .entry)) at (Varint.Value kind next) ⌝ }
 {
     if 4 < kind {
         return Item::Bad(Fault::Kind, at);
@@ -136,9 +136,9 @@ fn of_kind(s: &[u8], at: usize, kind: u16, next: usize) -> Item
     if kind == 0 {
         return Item::Next(Event::Reset, next);
     }
-    match number_at(s, next) {
-        Number::Bad(f, place) => Item::Bad(f, place),
-        Number::Value(n, after) => match kind {
+    match varint_at(s, next) {
+        Varint::Bad(f, place) => Item::Bad(f, place),
+        Varint::Value(n, after) => match kind {
             1 => value_at(s, n, after),
             2 => Item::Next(Event::Read(n), after),
             3 => Item::Next(Event::Slot(n), after),
@@ -148,11 +148,11 @@ fn of_kind(s: &[u8], at: usize, kind: u16, next: usize) -> Item
 }
 
 fn value_at(s: &[u8], address: u16, at: usize) -> Item
-    ensures { λ r. ⌜ r ≡ rule.valued address (rule.numberAt (now (s .entry)) at) ⌝ }
+    ensures { λ r. ⌜ r ≡ rule.valued address (rule.varintAt (now (s .entry)) at) ⌝ }
 {
-    match number_at(s, at) {
-        Number::Bad(f, p) => Item::Bad(f, p),
-        Number::Value(v, next) => Item::Next(Event::Write(address, v), next),
+    match varint_at(s, at) {
+        Varint::Bad(f, p) => Item::Bad(f, p),
+        Varint::Value(v, next) => Item::Next(Event::Write(address, v), next),
     }
 }
 

@@ -100,7 +100,7 @@ fn digit(b: u8) -> u8
 
 // The whole session.
 fn read_all(s: &[u8]) -> Outcome
-    ensures { λ r. ⌜ r ≡ rule.outcomeOf (reading.session reading.longest (now (s .entry))) ⌝ }
+    ensures { λ r. ⌜ r ≡ rule.outcomeOf (reading.session reading.mostEvents (now (s .entry))) ⌝ }
 {
     match session::header_at(s, 0) {
         Header::Bad(f, p) => Outcome::Refused(f, p),
@@ -150,7 +150,7 @@ fn events(n: u16) {
 
 fn bad(f: Fault, p: usize) {
     io::write_all(STDOUT_FILENO, b"bad ");
-    io::print_decimal(STDOUT_FILENO, session::code_of(f) as u64);
+    io::print_decimal(STDOUT_FILENO, session::fault_number(f) as u64);
     io::write_all(STDOUT_FILENO, b" at ");
     io::print_decimal(STDOUT_FILENO, p as u64);
 }

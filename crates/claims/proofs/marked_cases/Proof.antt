@@ -7,13 +7,13 @@ use Rattle.line.proofs.Laws.{slots-length}
 use Rattle.rules.specs.Definitions.Channels.{base, matches}
 use Rattle.rules.specs.Definitions.Mailbox.{mailboxAt, statusByte}
 use Rattle.rules.specs.Definitions.Hearing.{fits}
-use Rattle.leb128.specs.Number.{number, written, groups, groupsOf, before, faultOf, refusalNumber}
+use Rattle.leb128.specs.Leb128.{decode, uleb128, groups, groupsOf, before, faultOf, refusalNumber}
 use Rattle.claims.specs.Claims.{Marked}
 use Rattle.claims.proofs.marked_cases.Statement.{statement}
 use Rattle.claims.proofs.marked_cases.Tie as tie
 
 marked : Marked
-unfolding pattern lineCode bits size base matches mailboxAt statusByte fits number written groups groupsOf before faultOf refusalNumber
+unfolding pattern lineCode bits size base matches mailboxAt statusByte fits decode uleb128 groups groupsOf before faultOf refusalNumber
 marked =
     record {
       p1 = refl;

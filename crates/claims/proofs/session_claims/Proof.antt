@@ -1,8 +1,8 @@
 use Prim.Native.Nat.{ℕ, _≤_}
 use mathlib.Core.Path.{subst}
 use lib.ListN.{length}
-use Rattle.leb128.proofs.RoundTrip.{accepted, reads-back}
-use Rattle.session.specs.Reading.{longest}
+use Rattle.leb128.proofs.RoundTrip as leb128
+use Rattle.session.specs.Reading.{mostEvents}
 use Rattle.session.proofs.Sessions as sessions
 use Rattle.claims.specs.Claims.{Sessions}
 use Rattle.claims.proofs.session_claims.Statement.{statement}
@@ -14,11 +14,11 @@ values =
       answered = sessions.total;
       stand = sessions.prefix;
       settled = sessions.stands;
-      sound = sessions.determined;
+      sound = sessions.sound;
       complete = sessions.complete;
-      short = λ s b es e. subst (λ (n : ℕ). length s ≤ n) sessions.longest-size (sessions.size longest s b es e);
-      number-sound = accepted;
-      number-complete = reads-back;
+      short = λ s b es e. subst (λ (n : ℕ). length s ≤ n) sessions.largest-size (sessions.size mostEvents s b es e);
+      number-sound = leb128.sound;
+      number-complete = leb128.complete;
     }
 
 pub session-claims-spec : {M : Type 1} → statement M

@@ -4,7 +4,7 @@ use mathlib.Core.Path.{_∙_}
 use native.Mathlib.Omega.{arith}
 use borrow.Fn.Kinds.{In}
 use borrow.Fn.PlainCycle.{Measures, is, falls, and}
-use Rattle.leb128.specs.Number.{restOf, valueOf, faultOf, refusalNumber}
+use Rattle.leb128.specs.Leb128.{restOf, valueOf, faultOf, refusalNumber}
 use Rattle.leb128.proofs.GroupLaws.{to-end}
 use Rattle.leb128.proofs.Laws.{answers, no-group, missing, last, further, is-refused, adds-nothing, too-large, joins}
 use Rattle.leb128.proofs.groups.Reads as groups

@@ -1,11 +1,11 @@
 use mathlib.Core.Path.{refl}
-use Rattle.leb128.specs.Number.{number, written, groups, groupsOf, before, faultOf, refusalNumber}
+use Rattle.leb128.specs.Leb128.{decode, uleb128, groups, groupsOf, before, faultOf, refusalNumber}
 use Rattle.leb128.specs.Cases.{Cases}
 use Rattle.leb128.proofs.cases.Statement.{statement}
 use Rattle.leb128.proofs.cases.Tie as tie
 
 values : Cases
-unfolding number written groups groupsOf before faultOf refusalNumber
+unfolding decode uleb128 groups groupsOf before faultOf refusalNumber
 values =
     record {
       largest = refl;

@@ -1,9 +1,9 @@
-use Rattle.leb128.specs.Number.{number}
+use Rattle.leb128.specs.Leb128.{decode}
 use Rattle.leb128.proofs.read.Statement.{statement}
 use Rattle.leb128.proofs.read.Tie as tie
 
 pub read-spec : {M : Type 1} → statement M
-unfolding number
+unfolding decode
 read-spec =
     tie.close (tie.spec
     (λ c κs. tt)

@@ -33,7 +33,7 @@ play-events-spec =
     (λ c. omega arith)
     (λ c. let x = c .before .before .before .before .before .before .before .before .before .before .before .before .before .before .before .before .args in
     let l = c .before .before .before .before .before .before .before .before .before .before .loop in (
-      bad-laid _ _ _ (l .inv .3) (bad-line (controller (l .m) (l .k)) (x .s .now) (x .count) (l .index) (l .from) (c .before .before .before .before .before .before .before .before .before .loop-test .taken) (sym (c .before .before .before .before .before .before .before .before .event-from .ensures) ∙ c .before .before .before .before .before .before .f .given .1)) (c .before .before .before .code-of .ensures)
+      bad-laid _ _ _ (l .inv .3) (bad-line (controller (l .m) (l .k)) (x .s .now) (x .count) (l .index) (l .from) (c .before .before .before .before .before .before .before .before .before .loop-test .taken) (sym (c .before .before .before .before .before .before .before .before .event-from .ensures) ∙ c .before .before .before .before .before .before .f .given .1)) (c .before .before .before .fault-number .ensures)
           (line-laid {room = l .room} {at = l .place} (omega arith) (c .before .before .put-edge .ensures .0) (c .before .before .put-edge .ensures .1 .0)),
       (let b = c .before .before .put-edge .ensures .1 .1 in omega arith),
     ))

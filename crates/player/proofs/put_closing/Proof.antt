@@ -18,4 +18,4 @@ put-closing-spec =
     (λ c. omega arith)
     (λ c. (rw (← (c .before .before .before .before .before .before .end-at .ensures), c .before .before .before .before .enum-told .given .1) (line-laid {room = c .before .before .before .before .before .before .before .before .before .args .room .now} {at = c .before .before .before .before .before .before .before .before .before .args .at} (omega arith) (c .before .before .put-edge .ensures .0) (c .before .before .put-edge .ensures .1 .0)), c .before .before .put-edge .ensures .1 .1))
     (λ c. omega arith)
-    (λ c. (rw (← (c .before .before .before .before .before .before .before .before .end-at .ensures), c .before .before .before .before .before .before .f .given .1) (rw (← (c .before .before .before .code-of .ensures)) (line-laid {room = c .before .before .before .before .before .before .before .before .before .before .before .args .room .now} {at = c .before .before .before .before .before .before .before .before .before .before .before .args .at} (omega arith) (c .before .before .put-edge2 .ensures .0) (c .before .before .put-edge2 .ensures .1 .0))), c .before .before .put-edge2 .ensures .1 .1)))
+    (λ c. (rw (← (c .before .before .before .before .before .before .before .before .end-at .ensures), c .before .before .before .before .before .before .f .given .1) (rw (← (c .before .before .before .fault-number .ensures)) (line-laid {room = c .before .before .before .before .before .before .before .before .before .before .before .args .room .now} {at = c .before .before .before .before .before .before .before .before .before .before .before .args .at} (omega arith) (c .before .before .put-edge2 .ensures .0) (c .before .before .put-edge2 .ensures .1 .0))), c .before .before .put-edge2 .ensures .1 .1)))

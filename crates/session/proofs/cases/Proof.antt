@@ -1,12 +1,12 @@
 use mathlib.Core.Path.{refl}
-use Rattle.leb128.specs.Number.{number, groups, before}
+use Rattle.leb128.specs.Leb128.{decode, groups, before}
 use Rattle.session.specs.Cases.{Cases}
-use Rattle.session.specs.Reading.{faultNumber, refusal, placed, numberAt, counted, versioned, headerAt, valued, operands, kinded, eventAt, endAt, follow, eventsAt, started, session}
+use Rattle.session.specs.Reading.{faultNumber, refusal, placed, varintAt, counted, versioned, headerAt, valued, operands, kinded, eventAt, endAt, follow, eventsAt, started, session}
 use Rattle.session.proofs.cases.Statement.{statement}
 use Rattle.session.proofs.cases.Tie as tie
 
 values : Cases
-unfolding number groups before faultNumber refusal placed numberAt counted versioned headerAt valued operands kinded eventAt endAt follow eventsAt started session
+unfolding decode groups before faultNumber refusal placed varintAt counted versioned headerAt valued operands kinded eventAt endAt follow eventsAt started session
 values = record { empty = refl; cut = refl; listing = refl }
 
 pub cases-spec : {M : Type 1} → statement M

@@ -11,5 +11,5 @@ event-at-spec =
     (λ c. search needs)
     (λ c. search needs)
     (λ c κs. tt)
-    (λ c. simp (c .before .f .given .1, ← (c .before .before .before .number-at .ensures)))
-    (λ c. simp (← (c .of-kind .ensures), c .before .before .kind .given .1, ← (c .before .before .before .before .number-at .ensures))))
+    (λ c. simp (c .before .f .given .1, ← (c .before .before .before .varint-at .ensures)))
+    (λ c. simp (← (c .of-kind .ensures), c .before .before .kind .given .1, ← (c .before .before .before .before .varint-at .ensures))))

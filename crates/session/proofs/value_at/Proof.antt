@@ -10,5 +10,5 @@ value-at-spec =
     (λ c κs. tt)
     (λ c. search needs)
     (λ c. search needs)
-    (λ c. simp (c .before .f .given .1, ← (c .before .before .before .number-at .ensures)))
-    (λ c. simp (c .before .v .given .1, ← (c .before .before .before .number-at .ensures))))
+    (λ c. simp (c .before .f .given .1, ← (c .before .before .before .varint-at .ensures)))
+    (λ c. simp (c .before .v .given .1, ← (c .before .before .before .varint-at .ensures))))

@@ -1,11 +1,11 @@
 use borrow.Author.Needs.{needs}
 use Rattle.session.specs.Reading.{faultNumber}
-use Rattle.session.proofs.code_of.Statement.{statement}
-use Rattle.session.proofs.code_of.Tie as tie
+use Rattle.session.proofs.fault_number.Statement.{statement}
+use Rattle.session.proofs.fault_number.Tie as tie
 
-pub code-of-spec : {M : Type 1} → statement M
+pub fault-number-spec : {M : Type 1} → statement M
 unfolding faultNumber
-code-of-spec =
+fault-number-spec =
     tie.close (tie.spec
     (λ c. search needs)
     (λ c. search needs)
