@@ -1,9 +1,10 @@
--- Every promise, on one page: first in words (quoted from the demands or from 01), then exactly. The proofs stand in proofs/.
+-- Every promise, on one page: first in words (quoted from the demands or from 01), then exactly. The proofs stand in proofs/, here and in the crates below.
 -- What the calls do is said in their own contracts, by the definitions that are used here:
---   controller: each call's answer is `step` of its event, for every controller, in range or not (crates/controller/src/lib.rt); the same over a lent map (crates/host, crates/slots)
---   codec: `encoded`, `encodedRoom` (crates/encoder/src/lib.rt); `decoded`, `decodedRoom` of `reading` (crates/decoder/src/lib.rt)
---   session: `session`, `eventAt` (crates/session/src/lib.rt); numbers: `number` (crates/number/src/lib.rt)
---   listing: `played`, `playedRoom` of `listingOf`, and `first_lines` (crates/player/src/lib.rt); for C: crates/frapmast/src/lib.rt
+--   controller: each call's answer is `step` of its event, for every controller, in range or not (crates/access, crates/controller); the same over a lent map
+--     (crates/host, crates/host_read, crates/slots)
+--   codec: `encoded`, `encodedRoom` (crates/encoder); `decoded`, `decodedRoom` of `reading` (crates/decoder)
+--   session: `headerAt`, `eventAt`, `endAt` (crates/session), of which `session` is made; its numbers: `decode` (crates/leb128)
+--   listing: `played`, `playedRoom` of `listingOf` (crates/player); its first lines (crates/bench_record); for C: crates/frapmast
 use Prim.Native.Nat.{ℕ, _+_, _-_, _*_, _/_, _%_, _≤_, _<_}
 use mathlib.Core.Bool.{true, false}
 use mathlib.Core.List.{List, [], _∷_, _++_}
@@ -54,7 +55,7 @@ use Rattle.claims.specs.Decoded.{Decoded}
 -- ---- demand 1
 
 pub record Refusals : Type 0 where
-  -- "a refused call leaves the controller .. as [it] stood before it"
+  -- "a refused call leaves the controller and every buffer we lent as they stood before it": the controller
   pub same : (c : Controller) (e : Event) → (step c e .refused ≡ 0 → ⊥) → step c e .next ≡ c
   -- "Each returns its number and zero elsewhere"
   pub zero-elsewhere : (c : Controller) (e : Event) → (step c e .refused ≡ 0 → ⊥) → step c e .value ≡ 0
@@ -71,7 +72,7 @@ pub record Refusals : Type 0 where
       ≡ pick (inRange (c .core)) (pick (isAsleep (c .core .activity .mode)) 7 (pick (ltb 255 a) 1 (pick (writeOnly a) 4 (pick (reserved a) 4 0)))) 6
   -- "Slots: 6, 5"
   pub of-slot : (c : Controller) (levels : ℕ) → step c (Slot levels) .refused ≡ pick (inRange (c .core)) (pick (ltb 7 levels) 5 0) 6
-  -- "and every buffer we lent as [it] stood before it": the codec's room
+  -- and the buffers lent to the codec
   pub encode-room : (room : List ℕ) (f : Frame) (r : codec-refusal.Refusal) → encodedRoom room f (encoding.Refused r) ≡ room
   pub decode-room : (room : List ℕ) (x : Reading) (r : codec-refusal.Refusal) → decoded (length room) x ≡ decoding.Refused r → decodedRoom room x ≡ room
 
@@ -81,16 +82,17 @@ pub record Sessions : Type 0 where
   -- "session events before a bad one stand": they are the same whatever stands from the fault's place on
   pub stand : (most : ℕ) (s : List ℕ) → Bytes s → (c : ℕ) (r : Events) → session most s ≡ Counted c r → (f : Fault) (p : ℕ) → r .end ≡ Bad f p
       → (t : List ℕ) → sessions.Begins c (r .events) (session most (take p s ++ t))
-  -- and the fault, unless the input is cut there, whatever follows the input
+  -- and the fault, unless it is a cut, whatever follows the input
   pub settled : (most : ℕ) (s t : List ℕ) → Bytes s → Settled (session most s) → session most (s ++ t) ≡ session most s
-  -- a good session is the written form of its events, and every such form is a good session
+  -- a good session is the bytes of its events, and the bytes of at most `most` events are a good session
   pub sound : (most : ℕ) (s : List ℕ) → Bytes s → (es : List session-event.Event) → sessions.Good most s es → (length es ≤ most) × AllFit es × (s ≡ sessionBytes es)
   pub complete : (most : ℕ) (es : List session-event.Event) → length es ≤ most → length es ≤ 65535 → AllFit es → sessions.Good most (sessionBytes es) es
   -- "a good session has at most 28,675" bytes
   pub short : (s : List ℕ) → Bytes s → (es : List session-event.Event) → sessions.Good mostEvents s es → length s ≤ 28675
-  -- a number's "shortest form only", and "the rest of the caller's bytes is handed back"
-  pub number-sound : (s : List ℕ) → Bytes s → (n : ℕ) (t : List ℕ) → leb128.decode s ≡ leb128.Value n t → (n ≤ 65535) × (s ≡ uleb128 n ++ t)
-  pub number-complete : (n : ℕ) (t : List ℕ) → n ≤ 65535 → leb128.decode (uleb128 n ++ t) ≡ leb128.Value n t
+  -- a number's "shortest form only", and "the rest of the caller's bytes is handed back": what is accepted is the LEB128 form of its value with the rest behind
+  -- it, and every such form is accepted
+  pub leb128-sound : (s : List ℕ) → Bytes s → (n : ℕ) (t : List ℕ) → leb128.decode s ≡ leb128.Value n t → (n ≤ 65535) × (s ≡ uleb128 n ++ t)
+  pub leb128-complete : (n : ℕ) (t : List ℕ) → n ≤ 65535 → leb128.decode (uleb128 n ++ t) ≡ leb128.Value n t
 
 -- ---- demand 2
 
@@ -138,12 +140,12 @@ pub record Receiving : Type 0 where
   pub sound : (m s : List ℕ) → Below 2 s → agree.receives m begun s ≡ true → agree.Accepted m (0 ∷ s)
   pub complete : (m s : List ℕ) → Below 2 s → agree.Accepted m (0 ∷ s) → agree.receives m begun s ≡ true
   -- "Matched and fitting, RAK 1, DRAK 0, check right: the model drives the acknowledge", and no other dominant level where it isn't the sender
-  -- (Acknowledges in crates/rules/specs/Delivered.antt); and a closed run in which it is driven and the frame stored
+  -- (Acknowledges in crates/rules/specs/Statements/Receiving.antt); and a closed run in which it is driven and the frame stored
   pub acknowledged : (es : List Event) → Delivered fresh noLog es
   pub closed : rules.Receiving
-  -- "The model's own frame .. is not stored, touches no receiving channel and is never acknowledged by the model" (crates/rules/specs/Own.antt)
+  -- "The model's own frame .. is not stored, touches no receiving channel and is never acknowledged by the model" (crates/rules/specs/Statements/OwnFrames.antt)
   pub own : OwnFrames
-  -- "The interrupt line is asserted when status and enable share a one"; what raises each of the six bits, and nothing else does (crates/rules/specs/Interrupts.antt)
+  -- "The interrupt line is asserted when status and enable share a one"; what raises each of the six bits, and nothing else does (crates/rules/specs/Statements/Interrupts.antt)
   pub interrupts : interrupt.Interrupts
 
 -- ---- demand 3
@@ -152,7 +154,7 @@ pub record Sending : Type 0 where
   -- "each event gets the controller that the last one left"
   pub chained : (c : Controller) (es : List Event) (e : Event) → after c (es ++ (e ∷ [])) ≡ step (after c es) e .next
   -- for every list of events: one fixed frame of which each attempt drives an opening part, at most R + 1 errors, TE exactly at R + 1, at most
-  -- (C + R + 1) × (60 + 10n) slots, by the tally's own count (Kept and Claim in crates/rules/specs/Promise.antt, the tally in Tally.antt)
+  -- (C + R + 1) × (60 + 10n) slots, by the tally's own count (Kept and Claim in crates/rules/specs/Statements/Sending.antt, the tally in Tally.antt)
   pub kept : (es : List Event) → Kept fresh none es
   -- closed runs with their figures for C, errors and slots: sent, exhausted, lost twice, joined, aborted
   pub runs : rules.Runs

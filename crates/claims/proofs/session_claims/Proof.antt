@@ -17,8 +17,8 @@ values =
       sound = sessions.sound;
       complete = sessions.complete;
       short = λ s b es e. subst (λ (n : ℕ). length s ≤ n) sessions.largest-size (sessions.size mostEvents s b es e);
-      number-sound = leb128.sound;
-      number-complete = leb128.complete;
+      leb128-sound = leb128.sound;
+      leb128-complete = leb128.complete;
     }
 
 pub session-claims-spec : {M : Type 1} → statement M
