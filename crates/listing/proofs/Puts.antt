@@ -14,12 +14,12 @@ use Rattle.listing.proofs.Laws.{joined, decimal-one, decimal-more, deci
 
 -- ---- bytes one by one
 
+pub put-here : (room text : List ℕ) (i k : ℕ) → k < length text → sets room i (drop k text) ≡ sets (set room i (getD text k 0)) (i + 1) (drop (k + 1) text)
+put-here room text i k h = rw (drop-cons text k 0 h, add-one, add-one)
+
 pub put-next : (room text : List ℕ) (at k : ℕ) → k < length text →
     sets room (at + k) (drop k text) ≡ sets (set room (at + k) (getD text k 0)) (at + (k + 1)) (drop (k + 1) text)
-put-next room text at k h =
-    let e : suc (at + k) ≡ at + (k + 1) = omega arith in
-    let d : suc k ≡ k + 1 = omega arith in
-    rw (drop-cons text k 0 h, ← e, d)
+put-next room text at k h = let e : at + (k + 1) ≡ at + k + 1 = omega arith in rw e (put-here room text (at + k) k h)
 
 pub put-end : (room text : List ℕ) (i k : ℕ) → length text ≤ k → sets room i (drop k text) ≡ room
 put-end room text i k h = rw (drop-of-length-le text h)

@@ -6,6 +6,7 @@ use native.Mathlib.Omega.{arith}
 use lib.Dec.{eqb}
 use borrow.Author.Tests.{lt-ltb}
 use lib.ListN.{length, getD, drop, take, length-drop, drop-of-length-le}
+use lib.Seq.{drop-cons}
 use Rattle.leb128.specs.Leb128 as leb128
 use Rattle.leb128.specs.Leb128.{pick, Parsed, Refusal, decode, groups, restOf, valueOf, faultOf, refusalNumber}
 use Rattle.leb128.proofs.GroupLaws.{rest-fits, is-value, to-end}
@@ -19,14 +20,9 @@ unfolding varintAt placed decode groups refusal
 past-end s at h = let e : min at (length s) ≡ length s = omega arith in rw (drop-of-length-le s h, e)
 
 -- one group
-drop-next : (s : List ℕ) (at : ℕ) → at < length s → drop at s ≡ getD s at 0 ∷ drop (suc at) s
-drop-next [] at h = absurd (omega (arith, h))
-drop-next (x ∷ xs) zero h = refl
-drop-next (x ∷ xs) (suc at) h = drop-next xs at (omega (arith, h))
-
 pub one-group : (s : List ℕ) (at : ℕ) → at < length s → getD s at 0 < 128 → Value (getD s at 0) (at + 1) ≡ varintAt s at
 unfolding varintAt placed decode groups
-one-group s at h b = let l = length-drop (suc at) s in let e : length s - length (drop (suc at) s) ≡ at + 1 = omega arith in rw (drop-next s at h, lt-ltb _ _ b, e)
+one-group s at h b = let l = length-drop (suc at) s in let e : length s - length (drop (suc at) s) ≡ at + 1 = omega arith in rw (drop-cons s at 0 h, lt-ltb _ _ b, e)
 
 -- the refusal of a number
 abbrev pub refusalOf : ℕ → Refusal

@@ -3,7 +3,7 @@ use native.Mathlib.Omega.{arith}
 use Prim.Native.Nat.{_≤_, _-_}
 use lib.ListN.{length, drop, length-set}
 use lib.Seq.{sets}
-use Rattle.player.proofs.Bytes.{copy-next, copy-end}
+use Rattle.listing.proofs.Puts.{put-here, put-end}
 use Rattle.player.proofs.copy.Statement.{statement}
 use Rattle.player.proofs.copy.Tie as tie
 
@@ -21,6 +21,6 @@ copy-spec =
     (λ c. omega arith)
     (λ c. omega arith)
     (λ c. omega arith)
-    (λ c. (omega arith, simp length-set (c .before .before .loop .inv .1), c .before .before .loop .inv .2 ∙ copy-next _ _ _ (c .before .loop-test .taken)))
+    (λ c. (omega arith, simp length-set (c .before .before .loop .inv .1), c .before .before .loop .inv .2 ∙ put-here _ _ _ _ (c .before .loop-test .taken)))
     (λ c. c .before .loop .inv .1)
-    (λ c. sym (c .before .loop .inv .2 ∙ copy-end _ _ _ _ (c .loop-test .left))))
+    (λ c. sym (c .before .loop .inv .2 ∙ put-end _ _ _ _ (c .loop-test .left))))

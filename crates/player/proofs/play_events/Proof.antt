@@ -9,7 +9,7 @@ use Rattle.rules.specs.Definitions.Answers.{controller}
 use Rattle.listing.proofs.Laws.{line-laid}
 use Rattle.bench_record.specs.Record.{body}
 use Rattle.bench_record.proofs.Laws.{Goes, begun, other-rest, first-rest, bad-line, bad-laid, stepped, last-line, laid-all}
-use Rattle.player.proofs.Bytes.{step-fits}
+use Rattle.player.proofs.Indices.{step-fits}
 use Rattle.player.proofs.play_events.Statement.{statement}
 use Rattle.player.proofs.play_events.Tie as tie
 

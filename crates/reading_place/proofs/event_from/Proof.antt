@@ -1,4 +1,4 @@
--- `reading_place::event_from` meets its contract: a walk of its MIR. The `Session` that one call returns is held in a local and passed to the next. All that the proof knows of `open`, `moved` and `next` is that each meets its contract.
+-- `reading_place::event_from` meets its contract: a walk of its MIR. The `Session` that one call returns is held in a local and passed to the next. All that the proof knows of `open`, `moved` and `event` is that each meets its contract.
 -- The machine value that a call returns is stored and passed on as it is. In a local of a body MIR erases the lifetime of the struct's type, so the value is shown to have the type at `erased`: what the struct owns does not say the lifetime's name.
 -- Assumes nothing.
 use mathlib.Core.Path.{_≡_, refl, ap, _∙_}
@@ -53,10 +53,10 @@ use Rattle.reading_place.proofs.moved as moved
 use Rattle.reading_place.proofs.moved.Symbol as moved-def
 use Rattle.reading_place.proofs.moved.Symbol.{name as #reading-place·moved}
 use Rattle.reading_place.proofs.moved.Met as moved-thm
-use Rattle.reading_place.proofs.next as next
-use Rattle.reading_place.proofs.next.Symbol as next-def
-use Rattle.reading_place.proofs.next.Symbol.{name as #reading-place·next}
-use Rattle.reading_place.proofs.next.Met as next-thm
+use Rattle.reading_place.proofs.event as event
+use Rattle.reading_place.proofs.event.Symbol as event-def
+use Rattle.reading_place.proofs.event.Symbol.{name as #reading-place·event}
+use Rattle.reading_place.proofs.event.Met as event-thm
 use Rattle.reading_place.proofs.event_from.Key.{name as #reading-place·event-from}
 use Rattle.reading_place.proofs.event_from as from-place
 use Rattle.reading_place.proofs.event_from.Statement as stated
@@ -77,8 +77,8 @@ module _ {M : Type 1} (𝓤 : URA M) (H : Heap 𝓤) (A : Atoms 𝓤) (mem : Mem
   abbrev Moved : Contract 𝓤
   Moved = tripleOf 𝓤 H A moved.signature (moved.spec 𝓤 H A mem run)
 
-  abbrev Next : Contract 𝓤
-  Next = tripleOf 𝓤 H A next.signature (next.spec 𝓤 H A mem run)
+  abbrev Event : Contract 𝓤
+  Event = tripleOf 𝓤 H A event.signature (event.spec 𝓤 H A mem run)
 
 module _ {M : Type 1} (𝓤 : URA M) (H : Heap 𝓤) (A : Atoms 𝓤) (W : Given 𝓤 H A) (mem : Memory → SProp 𝓤) (run : Routine → Fun 𝓤) (κ : Lft) (q : Share) (s : RefT (List ℕ)) (n : ℕ) (ok : n < 2 ^ 64) where
   -- the machine value that s has
@@ -128,15 +128,15 @@ module _ {M : Type 1} (𝓤 : URA M) (H : Heap 𝓤) (A : Atoms 𝓤) (W : Given
   moved-said : (r t : Session) → ent 𝓤 (ensured 𝓤 H A moved.ended (moved.clauses 𝓤 H A mem run) (κ, tt) (r, (n, tt)) tt t) (fact 𝓤 ((t .src ≡ r .src) × (t .at ≡ n)))
   moved-said r t = exE 𝓤 _ (λ ws. snd∗ 𝓤 (sem 𝓤 H A (lasts moved.ended (κ, tt) (r, (n, tt)) ws)) (fact 𝓤 ((t .src ≡ r .src) × (t .at ≡ n))))
 
-  -- the call of `next`, at the struct r with the machine value u
-  abbrev to-next : Session → Val → Next 𝓤 H A mem run .Ghost
-  to-next r u = (((κ, tt), (q, tt), tt, (r, tt), (u ∷ [], tt)), tt)
+  -- the call of `event`, at the struct r with the machine value u
+  abbrev to-event : Session → Val → Event 𝓤 H A mem run .Ghost
+  to-event r u = (((κ, tt), (q, tt), tt, (r, tt), (u ∷ [], tt)), tt)
 
-  goes-next : (r : Session) (u : Val) → ent 𝓤 (⋆ 𝓤 H A (‵ (B (κ, tt) .own r (u ∷ [])) ∷ (‵ (flft κ q) ⊛ ‵ ftrue) ∷ [])) (Next 𝓤 H A mem run .pre (to-next r u))
-  goes-next r u = qed W (‵ (B (κ, tt) .own r (u ∷ [])) ∷ (‵ (flft κ q) ⊛ ‵ ftrue) ∷ []) ∵ nothing ! $ move ! (1 ∷ 0 ∷ []) $ fjoin ! $ move ! (1 ∷ 0 ∷ []) $ join ! $ frame ! $ done !
+  goes-event : (r : Session) (u : Val) → ent 𝓤 (⋆ 𝓤 H A (‵ (B (κ, tt) .own r (u ∷ [])) ∷ (‵ (flft κ q) ⊛ ‵ ftrue) ∷ [])) (Event 𝓤 H A mem run .pre (to-event r u))
+  goes-event r u = qed W (‵ (B (κ, tt) .own r (u ∷ [])) ∷ (‵ (flft κ q) ⊛ ‵ ftrue) ∷ []) ∵ nothing ! $ move ! (1 ∷ 0 ∷ []) $ fjoin ! $ move ! (1 ∷ 0 ∷ []) $ join ! $ frame ! $ done !
 
-  next-said : (r : Session) (t : Item) → ent 𝓤 (ensured 𝓤 H A next.ended (next.clauses 𝓤 H A mem run) (κ, tt) (r, tt) tt t) (fact 𝓤 (t ≡ eventAt (now (r .src)) (r .at)))
-  next-said r t = exE 𝓤 _ (λ ws. snd∗ 𝓤 (sem 𝓤 H A (lasts next.ended (κ, tt) (r, tt) ws)) (fact 𝓤 (t ≡ eventAt (now (r .src)) (r .at))))
+  event-said : (r : Session) (t : Item) → ent 𝓤 (ensured 𝓤 H A event.ended (event.clauses 𝓤 H A mem run) (κ, tt) (r, tt) tt t) (fact 𝓤 (t ≡ eventAt (now (r .src)) (r .at)))
+  event-said r t = exE 𝓤 _ (λ ws. snd∗ 𝓤 (sem 𝓤 H A (lasts event.ended (κ, tt) (r, tt) ws)) (fact 𝓤 (t ≡ eventAt (now (r .src)) (r .at))))
 
   exits : (t : Item) (u : Val) → t ≡ found → ent 𝓤 (⋆ 𝓤 H A (‵ (S.the-row .own t (u ∷ [])) ∷ (‵ (flft κ q) ⊛ ‵ ftrue) ∷ ‵ Own ∷ [])) (Post u)
   exits t u e =
@@ -144,7 +144,7 @@ module _ {M : Type 1} (𝓤 : URA M) (H : Heap 𝓤) (A : Atoms 𝓤) (W : Given
       suffices ! _ (ends-at 𝓤 H A from-place.ended stayed (from-place.clauses 𝓤 H A mem run) W (((κ, tt), (q, tt), tt, (s, (n, tt)), at), tt) u t (tt, (tt, tt)) (tt, (tt, tt))) $ says ! e $
       move ! (1 ∷ []) $ frame ! $ nothing ! $ owned ! usize (Is usize) (uint-makes 𝓤 H A W w64) n _ (refl, ok) $ fjoin ! $ move ! (2 ∷ 0 ∷ []) $ fjoin ! $ frame ! $ done !
 
-  module _ (C : Calls 𝓤 H) (Λ : Loops 𝓤 H) (fm : FmC 𝓤 H (W .laws) C) (known-new : Triple 𝓤 (C #reading-place·open) (New 𝓤 H A mem run)) (known-moved : Triple 𝓤 (C #reading-place·moved) (Moved 𝓤 H A mem run)) (known-next : Triple 𝓤 (C #reading-place·next) (Next 𝓤 H A mem run)) where
+  module _ (C : Calls 𝓤 H) (Λ : Loops 𝓤 H) (fm : FmC 𝓤 H (W .laws) C) (known-new : Triple 𝓤 (C #reading-place·open) (New 𝓤 H A mem run)) (known-moved : Triple 𝓤 (C #reading-place·moved) (Moved 𝓤 H A mem run)) (known-event : Triple 𝓤 (C #reading-place·event) (Event 𝓤 H A mem run)) where
     walk : Is (ShrSlice (named 0) κ u8) s (v ∷ []) → ent 𝓤 (onEntry 𝓤 H A from-place.signature (κ, tt) (q, tt) (s, (n, tt)) at) (WpFn 𝓤 H C Λ code.function (v ∷ vint w64 n ∷ []) Post)
     walk p =
         qed W (raw (onEntry 𝓤 H A from-place.signature (κ, tt) (q, tt) (s, (n, tt)) at) ∷ []) ∵ enter ! C Λ code.function (v ∷ vint w64 n ∷ []) _ $
@@ -164,10 +164,10 @@ module _ {M : Type 1} (𝓤 : URA M) (H : Heap 𝓤) (A : Atoms 𝓤) (W : Given
         -- [what the struct owns; the token; what s owns; _4; …; room for _3; …; _2; …; _1; …; room for _0; …]
         peeks ! (B (κ, tt)) (Is (B (κ, tt))) (shows 𝓤 H A (B (κ, tt))) d (w ∷ []) (λ has.
         land ! (from ! (stop !)) (init ! 5 refl (LL.lawful (T.the-type αᵉ) (T′.the-laws αᵉ) 𝓤 H A W .typed d _ has .0)) $
-        use2 W (raw (Next 𝓤 H A mem run .pre (to-next d w))) (goes-next d w) $
-        calls-at ! fm (Next 𝓤 H A mem run) known-next (to-next d w) (and-then ! (load ! (from ! (stop !)) (look ! 4 refl)) (no-more !)) (λ u′.
-        use1 W (later (some (λ (t : Item). ((‵ (flft κ q) ⊛ ‵ ftrue) ⊛ ‵ (S.the-row .own t (u′ ∷ []))) ⊛ raw (ensured 𝓤 H A next.ended (next.clauses 𝓤 H A mem run) (κ, tt) (d, tt) tt t)))) (id⊢ 𝓤 _) $ await ! tt $ pick ! (λ t.
-        split ! $ move ! (1 ∷ []) $ use1 W (raw (fact 𝓤 (t ≡ eventAt (now (d .src)) (d .at)))) (next-said d t) $ heard ! (t ≡ eventAt (now (d .src)) (d .at)) (λ e′. split ! $ move ! (1 ∷ []) $
+        use2 W (raw (Event 𝓤 H A mem run .pre (to-event d w))) (goes-event d w) $
+        calls-at ! fm (Event 𝓤 H A mem run) known-event (to-event d w) (and-then ! (load ! (from ! (stop !)) (look ! 4 refl)) (no-more !)) (λ u′.
+        use1 W (later (some (λ (t : Item). ((‵ (flft κ q) ⊛ ‵ ftrue) ⊛ ‵ (S.the-row .own t (u′ ∷ []))) ⊛ raw (ensured 𝓤 H A event.ended (event.clauses 𝓤 H A mem run) (κ, tt) (d, tt) tt t)))) (id⊢ 𝓤 _) $ await ! tt $ pick ! (λ t.
+        split ! $ move ! (1 ∷ []) $ use1 W (raw (fact 𝓤 (t ≡ eventAt (now (d .src)) (d .at)))) (event-said d t) $ heard ! (t ≡ eventAt (now (d .src)) (d .at)) (λ e′. split ! $ move ! (1 ∷ []) $
         -- [the result; the token; what s owns; _4; …; _3; …; _2; …; _1; …; room for _0; …]
         peeks ! S.the-row (Is S.the-row) (shows 𝓤 H A S.the-row) t (u′ ∷ []) (λ is′.
         land ! (from ! (stop !)) (init ! 11 refl (EL.lawful S.the-type S′.the-laws 𝓤 H A W tt .typed t _ is′ .0)) $
@@ -176,16 +176,16 @@ module _ {M : Type 1} (𝓤 : URA M) (H : Heap 𝓤) (A : Atoms 𝓤) (W : Given
         by ! (exits t u′ (e′ ∙ (ap (λ (x : RefT (List ℕ)). eventAt (now x) (d .at)) (m .0 ∙ e .0) ∙ ap (eventAt (now s)) (m .1)))))))))))))))))))))
 
 module _ {M : Type 1} (𝓤 : URA M) (H : Heap 𝓤) (A : Atoms 𝓤) (W : Given 𝓤 H A) (mem : Memory → SProp 𝓤) (run : Routine → Fun 𝓤) where
-  event-walks : (C : Calls 𝓤 H) (Λ : Loops 𝓤 H) → FmC 𝓤 H (W .laws) C → Triple 𝓤 (C #reading-place·open) (New 𝓤 H A mem run) → Triple 𝓤 (C #reading-place·moved) (Moved 𝓤 H A mem run) → Triple 𝓤 (C #reading-place·next) (Next 𝓤 H A mem run)
+  event-walks : (C : Calls 𝓤 H) (Λ : Loops 𝓤 H) → FmC 𝓤 H (W .laws) C → Triple 𝓤 (C #reading-place·open) (New 𝓤 H A mem run) → Triple 𝓤 (C #reading-place·moved) (Moved 𝓤 H A mem run) → Triple 𝓤 (C #reading-place·event) (Event 𝓤 H A mem run)
       → Walks 𝓤 H A from-place.ended stayed (WpFn 𝓤 H C Λ code.function) (from-place.clauses 𝓤 H A mem run)
-  event-walks C Λ fm known-new known-moved known-next = walked 𝓤 H A from-place.ended stayed (from-place.clauses 𝓤 H A mem run) (WpFn 𝓤 H C Λ code.function) (λ κs. (slice-vals, (uint-vals w64, tt))) (λ κs. (shr-slice-tells (named 0) (κs .0) u8, (uint-tells w64, tt)))
-      (λ κs qs bounds a g are. via 𝓤 _ (fst∗ 𝓤 _ (emp 𝓤)) (walk 𝓤 H A W mem run (κs .0) (qs .0) (a .0) (a .1 .0) (are .1 .0 .1) C Λ fm known-new known-moved known-next (are .0)))
+  event-walks C Λ fm known-new known-moved known-event = walked 𝓤 H A from-place.ended stayed (from-place.clauses 𝓤 H A mem run) (WpFn 𝓤 H C Λ code.function) (λ κs. (slice-vals, (uint-vals w64, tt))) (λ κs. (shr-slice-tells (named 0) (κs .0) u8, (uint-tells w64, tt)))
+      (λ κs qs bounds a g are. via 𝓤 _ (fst∗ 𝓤 _ (emp 𝓤)) (walk 𝓤 H A W mem run (κs .0) (qs .0) (a .0) (a .1 .0) (are .1 .0 .1) C Λ fm known-new known-moved known-event (are .0)))
 
 event-meets : {M : Type 1} (𝓤 : URA M) (H : Heap 𝓤) (A : Atoms 𝓤) (W : Given 𝓤 H A) (mem : Memory → SProp 𝓤) (run : Routine → Fun 𝓤) (𝓣 : Tables 𝓤 H)
-    → Triple 𝓤 (𝓣 .C #reading-place·open) (New 𝓤 H A mem run) → Triple 𝓤 (𝓣 .C #reading-place·moved) (Moved 𝓤 H A mem run) → Triple 𝓤 (𝓣 .C #reading-place·next) (Next 𝓤 H A mem run)
+    → Triple 𝓤 (𝓣 .C #reading-place·open) (New 𝓤 H A mem run) → Triple 𝓤 (𝓣 .C #reading-place·moved) (Moved 𝓤 H A mem run) → Triple 𝓤 (𝓣 .C #reading-place·event) (Event 𝓤 H A mem run)
     → Meets 𝓤 H A from-place.signature (WpFn 𝓤 H (𝓣 .C) (𝓣 .Λ) code.function) (from-place.spec 𝓤 H A mem run)
-event-meets 𝓤 H A W mem run 𝓣 known-new known-moved known-next = walk-meets 𝓤 H A from-place.ended stayed W (goes-none-slice 𝓤 H A W 1 (0 ∷ []) tt (plain (λ _. u8)) yes, (goes-none 𝓤 H A W 1 (λ _. usize) yes (λ κs x f. refl), tt)) (from-place.clauses 𝓤 H A mem run) (WpFn 𝓤 H (𝓣 .C) (𝓣 .Λ) code.function) (WpFn-mono 𝓤 H (W .laws) 𝓣 code.function)
-    (event-walks 𝓤 H A W mem run (𝓣 .C) (𝓣 .Λ) (fmOf 𝓤 H (W .laws) 𝓣) known-new known-moved known-next)
+event-meets 𝓤 H A W mem run 𝓣 known-new known-moved known-event = walk-meets 𝓤 H A from-place.ended stayed W (goes-none-slice 𝓤 H A W 1 (0 ∷ []) tt (plain (λ _. u8)) yes, (goes-none 𝓤 H A W 1 (λ _. usize) yes (λ κs x f. refl), tt)) (from-place.clauses 𝓤 H A mem run) (WpFn 𝓤 H (𝓣 .C) (𝓣 .Λ) code.function) (WpFn-mono 𝓤 H (W .laws) 𝓣 code.function)
+    (event-walks 𝓤 H A W mem run (𝓣 .C) (𝓣 .Λ) (fmOf 𝓤 H (W .laws) 𝓣) known-new known-moved known-event)
 
 pub event-from-spec : {M : Type 1} → stated.statement M
 unfolding code.routine tablesOf
@@ -195,4 +195,4 @@ event-from-spec 𝓤 H 𝓜 𝓖 𝓡 =
     (event-meets 𝓤 H (𝓖 .A) (givenOf 𝓤 H 𝓜 𝓖) (𝓜 .mem) (𝓡 .run) (tablesOf 𝓤 H 𝓜 (tables 𝓤 H 𝓜 𝓡 code.env))
     (cited 𝓤 H (New 𝓤 H (𝓖 .A) (𝓜 .mem) (𝓡 .run)) 𝓜 𝓡 code.env #reading-place·open new-def.routine code.calls-reading-place·open (new-thm.met 𝓤 H 𝓜 𝓖 𝓡))
     (cited 𝓤 H (Moved 𝓤 H (𝓖 .A) (𝓜 .mem) (𝓡 .run)) 𝓜 𝓡 code.env #reading-place·moved moved-def.routine code.calls-reading-place·moved (moved-thm.met 𝓤 H 𝓜 𝓖 𝓡))
-    (cited 𝓤 H (Next 𝓤 H (𝓖 .A) (𝓜 .mem) (𝓡 .run)) 𝓜 𝓡 code.env #reading-place·next next-def.routine code.calls-reading-place·next (next-thm.met 𝓤 H 𝓜 𝓖 𝓡)))
+    (cited 𝓤 H (Event 𝓤 H (𝓖 .A) (𝓜 .mem) (𝓡 .run)) 𝓜 𝓡 code.env #reading-place·event event-def.routine code.calls-reading-place·event (event-thm.met 𝓤 H 𝓜 𝓖 𝓡)))

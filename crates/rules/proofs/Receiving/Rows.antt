@@ -160,7 +160,7 @@ module _ (bytes : List ℕ) (j x : ℕ) (long : length bytes ≡ capacity + 4) (
       let l : length p ≡ j / 2 = length-take-le (j / 2) bytes (omega arith) in
       let b : take (4 * j) (byteBits bytes) ≡ byteBits p ++ bits 4 (c / 16) = ap (λ (t : List ℕ). take (4 * j) (byteBits t)) (split-at bytes (j / 2) 0 (omega arith)) ∙ take-half p c q (4 * j) (omega arith) in
       let r : bits 4 c ++ byteBits q ≡ replicate (z .0) 0
-          = cancel (byteBits p ++ bits 4 (c / 16)) (append-assoc (byteBits p) (bits 4 (c / 16)) (bits 4 c ++ byteBits q) ∙ sym bytes-cut ∙ z .1 ∙ ap (λ (t : List ℕ). t ++ replicate (z .0) 0) b) in
+      = cancel (byteBits p ++ bits 4 (c / 16)) (append-assoc (byteBits p) (bits 4 (c / 16)) (bits 4 c ++ byteBits q) ∙ sym bytes-cut ∙ z .1 ∙ ap (λ (t : List ℕ). t ++ replicate (z .0) 0) b) in
       let t = zeros-tail (bits 4 c) (byteBits q) (z .0) r in
       (t .0, odd-made e (t .0) (t .1) ∙ ap (λ (s : List ℕ). (s ++ bits 4 x) ++ replicate (t .0) 0) (sym b))
 
