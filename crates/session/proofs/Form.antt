@@ -50,7 +50,7 @@ module _ {s : List ℕ} {at : ℕ} {w : List ℕ} where
 from-place : (s : List ℕ) (at : ℕ) → Bytes s → Bytes (drop at s)
 from-place s at b k = rw (getD-drop at s k 0) (b (at + k))
 
--- A number is its written form; a fault has its place.
+-- A number is its LEB128 form; a fault has its place.
 unfoldable pub VarintIs : List ℕ → ℕ → Varint → Type 0
 VarintIs s at (Value n next) = (n ≤ 65535) × Form s at (uleb128 n) next
 VarintIs s at (BadVarint f p) = p ≡ at
