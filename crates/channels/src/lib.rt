@@ -1,5 +1,5 @@
 // Channels: the bits of byte 1, a channel's bytes, links (01, Memory map; 000, Channel Registers).
-// A channel number is taken modulo 14. `low` is byte 1 of a frame or of a channel: identifier or tag bits 3 to 0, EXT, RAK, R/W, RTR.
+// A channel number is 0 to 13; others are taken modulo 14. `low` is byte 1 of a frame or of a channel: identifier or tag bits 3 to 0, EXT, RAK, R/W, RTR.
 ghost use mathlib.Core.Path.{_≡_};
 ghost use Prim.Native.Nat.{_≤_};
 ghost use Rattle.rules.specs.Definitions.Channels as rule;
@@ -8,34 +8,73 @@ use rules::Channel;
 
 pub const CHANNELS: u8 = 14;
 
+// A channel's registers: their offsets, and the masks of their bits (000, Channel Register Set Structure). +4 and +5 are plain memory.
+pub struct Layout {}
+
+impl Layout {
+    pub const FIRST: usize = 0x10;
+
+    pub const SIZE: usize = 8;
+
+    pub const TAG: usize = 0;
+
+    // Tag bits 3 to 0, and the command.
+    pub const TAG_COMMAND: usize = 1;
+
+    pub const EXT: u8 = 0b0000_1000;
+
+    pub const RAK: u8 = 0b0000_0100;
+
+    pub const RNW: u8 = 0b0000_0010;
+
+    pub const RTR: u8 = 0b0000_0001;
+
+    pub const POINTER: usize = 2;
+
+    pub const DRAK: u8 = 0b1000_0000;
+
+    // The length M_L, and the status.
+    pub const LENGTH_STATUS: usize = 3;
+
+    pub const CHER: u8 = 0b0000_0100;
+
+    pub const CHTX: u8 = 0b0000_0010;
+
+    pub const CHRX: u8 = 0b0000_0001;
+
+    pub const MASK_HIGH: usize = 6;
+
+    pub const MASK_LOW: usize = 7;
+}
+
 // ---- the bits of byte 1
 
 // EXT.
 pub fn extension(low: u8) -> bool
     ensures { λ r. ⌜ r ≡ rule.extension low ⌝ }
 {
-    low / 8 % 2 == 1
+    low & Layout::EXT != 0
 }
 
 // RAK.
 pub fn acknowledge_asked(low: u8) -> bool
     ensures { λ r. ⌜ r ≡ rule.acknowledgeAsked low ⌝ }
 {
-    low / 4 % 2 == 1
+    low & Layout::RAK != 0
 }
 
 // R/W.
 pub fn reads(low: u8) -> bool
     ensures { λ r. ⌜ r ≡ rule.reads low ⌝ }
 {
-    low / 2 % 2 == 1
+    low & Layout::RNW != 0
 }
 
 // RTR.
 pub fn remote(low: u8) -> bool
     ensures { λ r. ⌜ r ≡ rule.remote low ⌝ }
 {
-    low % 2 == 1
+    low & Layout::RTR != 0
 }
 
 // ---- a channel's bytes
@@ -45,7 +84,7 @@ pub fn base(c: u8) -> usize
     ensures value { λ r. ⌜ r ≡ rule.base c ⌝ }
     ensures range { λ r. ⌜ r ≤ 120 ⌝ }
 {
-    0x10 + 8 * ((c % CHANNELS) as usize)
+    Layout::FIRST + Layout::SIZE * ((c % CHANNELS) as usize)
 }
 
 // The bytes of channel c.
@@ -54,12 +93,12 @@ pub fn channel_at(m: &[u8; 256], c: u8) -> Channel
 {
     let at = base(c);
     Channel {
-        high: m[at],
-        low: m[at + 1],
-        pointer: m[at + 2],
-        status: m[at + 3],
-        mask_high: m[at + 6],
-        mask_low: m[at + 7],
+        high: m[at + Layout::TAG],
+        low: m[at + Layout::TAG_COMMAND],
+        pointer: m[at + Layout::POINTER],
+        status: m[at + Layout::LENGTH_STATUS],
+        mask_high: m[at + Layout::MASK_HIGH],
+        mask_low: m[at + Layout::MASK_LOW],
     }
 }
 
@@ -74,7 +113,7 @@ fn length_of(status: u8) -> u8
 pub fn cher(status: u8) -> bool
     ensures { λ r. ⌜ r ≡ rule.cher status ⌝ }
 {
-    status / 4 % 2 == 1
+    status & Layout::CHER != 0
 }
 
 // ---- links
@@ -105,17 +144,17 @@ fn own_buffer(x: Channel) -> Buffer
     }
 }
 
-// The buffer of the channel that the link of channel c names: not above 13, not itself, not another link.
-fn linked_buffer(m: &[u8; 256], c: u8, named: u8) -> Buffer
-    ensures { λ r. ⌜ r ≡ rule.linkedBuffer (now (m .entry)) c named ⌝ }
+// The buffer of the channel that channel c links to: not above 13, not itself, not another link.
+fn linked_buffer(m: &[u8; 256], c: u8, link: u8) -> Buffer
+    ensures { λ r. ⌜ r ≡ rule.linkedBuffer (now (m .entry)) c link ⌝ }
 {
-    if CHANNELS <= named {
+    if CHANNELS <= link {
         return no_buffer();
     }
-    if named == c {
+    if link == c {
         return no_buffer();
     }
-    own_buffer(channel_at(m, named))
+    own_buffer(channel_at(m, link))
 }
 
 // The buffer that channel c uses, its link resolved.

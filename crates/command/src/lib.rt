@@ -5,6 +5,7 @@ ghost use Rattle.rules.specs.Definitions.Mailbox as mailbox;
 ghost use Rattle.rules.specs.Definitions.Service as service;
 ghost use Rattle.rules.specs.Definitions.State as core;
 ghost use Rattle.rules.specs.Definitions.Answers as answers;
+use channels::Layout;
 use registers::Map;
 use rules::Activity;
 use rules::Core;
@@ -166,7 +167,7 @@ fn aborts(s: Service, address: usize, value: u8) -> bool
 {
     let e = s.effort;
     if stage::in_service(e.progress) {
-        if address == channels::base(s.channel) + 3 {
+        if address == channels::base(s.channel) + Layout::LENGTH_STATUS {
             return channels::cher(value);
         }
         return false;

@@ -3,6 +3,7 @@
 ghost use mathlib.Core.Path.{_≡_};
 ghost use Rattle.rules.specs.Definitions.Channels as channel;
 ghost use Rattle.rules.specs.Definitions.Mailbox as rule;
+use channels::Layout;
 
 // ---- the status byte
 
@@ -10,21 +11,21 @@ ghost use Rattle.rules.specs.Definitions.Mailbox as rule;
 fn with_cher(status: u8) -> u8
     ensures { λ r. ⌜ r ≡ channel.withCher status ⌝ }
 {
-    status / 8 * 8 + 4 + status % 4
+    status | Layout::CHER
 }
 
 // The byte +3 with CHTx set.
 fn with_chtx(status: u8) -> u8
     ensures { λ r. ⌜ r ≡ channel.withChtx status ⌝ }
 {
-    status / 4 * 4 + 2 + status % 2
+    status | Layout::CHTX
 }
 
 // The byte +3 with CHRx set.
 fn with_chrx(status: u8) -> u8
     ensures { λ r. ⌜ r ≡ channel.withChrx status ⌝ }
 {
-    status / 2 * 2 + 1
+    status | Layout::CHRX
 }
 
 // ---- a channel of the map
@@ -34,16 +35,16 @@ pub fn retag(m: &mut [u8; 256], c: u8, high: u8, low: u8)
     ensures { λ _. ⌜ now (m .exit) ≡ rule.retagged (now (m .entry)) c high low ⌝ }
 {
     let at = channels::base(c);
-    let kept = m[at + 1] % 16;
-    m[at] = high;
-    m[at + 1] = low / 16 * 16 + kept;
+    let kept = m[at + Layout::TAG_COMMAND] % 16;
+    m[at + Layout::TAG] = high;
+    m[at + Layout::TAG_COMMAND] = low / 16 * 16 + kept;
 }
 
 // CHER set in channel c.
 pub fn mark_cher(m: &mut [u8; 256], c: u8)
     ensures { λ _. ⌜ now (m .exit) ≡ rule.markedCher (now (m .entry)) c ⌝ }
 {
-    let at = channels::base(c) + 3;
+    let at = channels::base(c) + Layout::LENGTH_STATUS;
     m[at] = with_cher(m[at]);
 }
 
@@ -51,7 +52,7 @@ pub fn mark_cher(m: &mut [u8; 256], c: u8)
 pub fn mark_chtx(m: &mut [u8; 256], c: u8)
     ensures { λ _. ⌜ now (m .exit) ≡ rule.markedChtx (now (m .entry)) c ⌝ }
 {
-    let at = channels::base(c) + 3;
+    let at = channels::base(c) + Layout::LENGTH_STATUS;
     m[at] = with_chtx(m[at]);
 }
 
@@ -59,6 +60,6 @@ pub fn mark_chtx(m: &mut [u8; 256], c: u8)
 pub fn mark_chrx(m: &mut [u8; 256], c: u8)
     ensures { λ _. ⌜ now (m .exit) ≡ rule.markedChrx (now (m .entry)) c ⌝ }
 {
-    let at = channels::base(c) + 3;
+    let at = channels::base(c) + Layout::LENGTH_STATUS;
     m[at] = with_chrx(m[at]);
 }

@@ -2,6 +2,7 @@
 // `low` is byte 1 of a frame or of a channel: identifier or tag bits 3 to 0, EXT, RAK, R/W, RTR.
 ghost use mathlib.Core.Path.{_≡_};
 ghost use Rattle.rules.specs.Definitions.Channels as rule;
+use channels::Layout;
 use rules::Buffer;
 use rules::Channel;
 use rules::Choice;
@@ -16,25 +17,48 @@ fn twelve(high: u8, low: u8) -> u16
     high as u16 * 16 + low as u16 / 16
 }
 
-// CHTx in +3.
-fn chtx(status: u8) -> bool
-    ensures { λ r. ⌜ r ≡ rule.chtx status ⌝ }
-{
-    status / 2 % 2 == 1
-}
-
-// CHRx in +3.
-fn chrx(status: u8) -> bool
-    ensures { λ r. ⌜ r ≡ rule.chrx status ⌝ }
-{
-    status % 2 == 1
-}
-
 // The no-acknowledge bit DRAK in +2.
 fn drak(pointer: u8) -> bool
     ensures { λ r. ⌜ r ≡ rule.drak pointer ⌝ }
 {
-    pointer / 128 == 1
+    pointer & Layout::DRAK != 0
+}
+
+// ---- channel status, and the message types (000, Message Types)
+
+// RNW, RTR, CHTx, CHRx.
+fn status_bits(x: Channel) -> u8
+    ensures { λ r. ⌜ r ≡ rule.statusBits x ⌝ }
+{
+    x.low % 4 * 4 + x.status % 4
+}
+
+// 0,1,-,0.
+fn receive_message(bits: u8) -> bool
+    ensures { λ r. ⌜ r ≡ rule.receiveMessage bits ⌝ }
+{
+    (bits == 0b0100) | (bits == 0b0110)
+}
+
+// 1,0,1,0.
+fn request_detection(bits: u8) -> bool
+    ensures { λ r. ⌜ r ≡ rule.requestDetection bits ⌝ }
+{
+    bits == 0b1010
+}
+
+// 0,0,0,-.
+fn transmit_message(bits: u8) -> bool
+    ensures { λ r. ⌜ r ≡ rule.transmitMessage bits ⌝ }
+{
+    (bits == 0b0000) | (bits == 0b0001)
+}
+
+// 1,0,0,1.
+fn deferred_reply(bits: u8) -> bool
+    ensures { λ r. ⌜ r ≡ rule.deferredReply bits ⌝ }
+{
+    bits == 0b1001
 }
 
 // ---- who takes a frame
@@ -46,51 +70,14 @@ fn matches(tag: u16, mask: u16, identifier: u16) -> bool
     (tag ^ identifier) & mask == 0
 }
 
-// 0,1,-,0 takes data frames.
-fn listens_for_data(x: Channel) -> bool
-    ensures { λ r. ⌜ r ≡ rule.listensForData x ⌝ }
-{
-    if channels::reads(x.low) {
-        return false;
-    }
-    let received = chrx(x.status);
-    if received {
-        return false;
-    }
-    channels::remote(x.low)
-}
-
-// 1,0,1,0 takes reply requests.
-fn listens_for_requests(x: Channel) -> bool
-    ensures { λ r. ⌜ r ≡ rule.listensForRequests x ⌝ }
-{
-    if channels::remote(x.low) {
-        return false;
-    }
-    let requested = chrx(x.status);
-    if requested {
-        return false;
-    }
-    (channels::reads(x.low)) & (chtx(x.status))
-}
-
-// Whether the channel's status takes a frame of this command: a data frame (R/W 0, RTR 0) or a reply request (1, 1), EXT 1.
+// Whether the channel's status takes a frame of this command, EXT 1: a data frame (R/W 0, RTR 0) or a reply request (1, 1).
 fn listens(x: Channel, low: u8) -> bool
     ensures { λ r. ⌜ r ≡ rule.listens x low ⌝ }
 {
-    if channels::extension(low) {
-        if channels::reads(low) {
-            if channels::remote(low) {
-                return listens_for_requests(x);
-            }
-            return false;
-        }
-        if channels::remote(low) {
-            return false;
-        }
-        return listens_for_data(x);
-    }
-    false
+    let bits = status_bits(x);
+    let data = (low % 4 == 0b00) & (receive_message(bits));
+    let request = (low % 4 == 0b11) & (request_detection(bits));
+    (channels::extension(low)) & ((data) | (request))
 }
 
 // Whether channel c takes the frame: it listens, its tag matches under its mask, its link is good.
@@ -175,19 +162,8 @@ pub fn winner_for(m: &[u8; 256], high: u8, low: u8) -> Winner
 fn asks_to_send(x: Channel) -> bool
     ensures { λ r. ⌜ r ≡ rule.asksToSend x ⌝ }
 {
-    if channels::cher(x.status) {
-        return false;
-    }
-    if channels::remote(x.low) {
-        return false;
-    }
-    if chtx(x.status) {
-        return false;
-    }
-    if channels::reads(x.low) {
-        return chrx(x.status);
-    }
-    true
+    let bits = status_bits(x);
+    ((transmit_message(bits)) | (deferred_reply(bits))) & (!channels::cher(x.status))
 }
 
 // Whether the buffer holds a status byte and at most `longest` data bytes.

@@ -2,7 +2,7 @@
 use Prim.Native.Nat.{ℕ, zero, suc, _+_, _-_, _*_, _/_, _%_, _≤_, _<_}
 use mathlib.Core.List.{List, [], _∷_, _++_, append-assoc}
 use mathlib.Core.Path.{_≡_, refl, ap, _∙_, sym}
-use native.Mathlib.Nat.{sub-zero}
+use native.Mathlib.Nat.{add-zero, sub-zero}
 use native.Mathlib.Omega.{arith}
 use lib.ListN.{length, getD, set, take, drop, replicate, drop-of-length-le, length-drop}
 use lib.Seq.{sets, take-at, take-all}
@@ -105,7 +105,7 @@ coded-is f n bytes p q = rw (p, q)
 
 -- the frame of a channel, from its header, its data and its check
 pub sent-coded : (m : List ℕ) (c at n : ℕ) (b : Buffer) (t₀ t r : List ℕ) → at ≡ base c → b ≡ bufferOf m c → n ≡ dataIn (b .length) → n ≤ 30
-    → t₀ ≡ (twelve (getD m at 0) (getD m (at + 1) 0) / 16) ∷ (twelve (getD m at 0) (getD m (at + 1) 0) % 16 * 16 + getD m (at + 1) 0 % 16) ∷ replicate 32 0
+    → t₀ ≡ (twelve (getD m (at + 0) 0) (getD m (at + 1) 0) / 16) ∷ (twelve (getD m (at + 0) 0) (getD m (at + 1) 0) % 16 * 16 + getD m (at + 1) 0 % 16) ∷ replicate 32 0
     → t ≡ sets t₀ 2 (mailboxBytes m (b .pointer) 1 n)
     → r ≡ set (set t (n + 2) (check (byteBits (take (n + 2) t)) / 128)) (n + 3) (check (byteBits (take (n + 2) t)) % 128 * 2)
     → _≡_ {A = Coded} (record { n = n; bytes = r }) (coded (sentFrame m c))
@@ -114,7 +114,7 @@ sent-coded m c at n b t₀ t r p q s h u v w =
     let f : Frame = sentFrame m c in
     let d : n ≡ dataIn (bufferOf m c .length) = rw (← q) s in
     let l : length (f .bytes) ≡ n = rw (← d) (mailbox-length m (bufferOf m c .pointer) 1 n) in
-    let g : t ≡ sets ((f .identifier / 16) ∷ (f .identifier % 16 * 16 + f .command) ∷ replicate 32 0) 2 (f .bytes) = v ∙ rw (u, q, p, d) in
+    let g : t ≡ sets ((f .identifier / 16) ∷ (f .identifier % 16 * 16 + f .command) ∷ replicate 32 0) 2 (f .bytes) = v ∙ rw (u, add-zero at, q, p, d) in
     coded-is f n r (sym l) (w ∙ coded-bytes f t n (omega arith) l h g)
 
 -- ---- a frame in the mailbox

@@ -9,6 +9,7 @@ ghost use Rattle.line.specs.Check as check;
 ghost use Rattle.line.specs.Frame as frame;
 ghost use Rattle.rules.specs.Definitions.Channels as channel;
 ghost use Rattle.rules.specs.Definitions.Mailbox as rule;
+use channels::Layout;
 use rules::Coded;
 
 // ---- the mailbox
@@ -112,7 +113,7 @@ pub fn coded_of(m: &[u8; 256], c: u8) -> Coded
     let at = channels::base(c);
     let b = channels::buffer_of(m, c);
     let n = data_in(b.length);
-    let mut bytes = headed(m[at], m[at + 1]);
+    let mut bytes = headed(m[at + Layout::TAG], m[at + Layout::TAG_COMMAND]);
     copy(&mut bytes, m, b.pointer, n);
     Coded {
         n: n,

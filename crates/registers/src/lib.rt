@@ -1,11 +1,10 @@
 // The control registers (01, Memory map; 000, Control and Status Registers).
 // 0x00, 0x01, 0x02 and 0x0A stand in the memory map. 0x05 to 0x07 and 0x09 are kept as numbers and bools, 0x04 is not kept; crate status makes their bytes.
 ghost use mathlib.Core.Path.{_≡_};
-ghost use mathlib.Core.Bool.{true, false};
+ghost use Prim.Native.Nat.{_<_};
 ghost use Rattle.rules.specs.Definitions.Registers as rule;
 ghost use Rattle.rules.specs.Definitions.Mailbox as memory;
 ghost use Rattle.registers.specs.Command as map;
-ghost use Rattle.registers.specs.Reserved as reserved;
 use rules::Flags;
 use rules::Report;
 use rules::Retries;
@@ -19,64 +18,120 @@ pub struct Command {
     pub rearbitration: bool,
 }
 
-// The register map: address, reset value, and reserved or fixed bits of each control register.
+// The register map: address, reset value and reserved bits of each control register, and the masks of its bits (000, Control and Status Registers).
 pub struct Map {}
 
 impl Map {
-    // Read and write: 0x00, 0x01, 0x02, 0x0A. Reserved bits without a fixed value are kept as written (house).
+    // Line control: read and write.
     pub const LINE_CONTROL: usize = 0x00;
 
     pub const LINE_CONTROL_RESET: u8 = 0x00;
 
     pub const LINE_CONTROL_RESERVED: u8 = 0b0000_0100;
 
+    pub const IVTX: u8 = 0b0000_0010;
+
+    pub const IVRX: u8 = 0b0000_0001;
+
+    // Transmit control: read and write. Its reserved bits are the version's, which must be 001.
     pub const TRANSMIT_CONTROL: usize = 0x01;
 
     pub const TRANSMIT_CONTROL_RESET: u8 = 0x02;
 
-    pub const TRANSMIT_CONTROL_FIXED: u8 = 0b0000_1110;
+    pub const TRANSMIT_CONTROL_RESERVED: u8 = 0b0000_1110;
 
-    pub const TRANSMIT_CONTROL_VERSION: u8 = 0b0000_0010;
+    pub const VERSION: u8 = 0b0000_0010;
 
+    pub const MT: u8 = 0b0000_0001;
+
+    // Diagnosis control: read and write.
     pub const DIAGNOSIS_CONTROL: usize = 0x02;
 
     pub const DIAGNOSIS_CONTROL_RESET: u8 = 0x00;
 
+    pub const DIAGNOSIS_CONTROL_RESERVED: u8 = 0;
+
+    // Command: write only, no reset value. Its reserved bits must be zero.
+    pub const COMMAND: usize = 0x03;
+
+    pub const COMMAND_RESERVED: u8 = 0b0000_0110;
+
+    pub const GRES: u8 = 0b1000_0000;
+
+    pub const SLEEP: u8 = 0b0100_0000;
+
+    pub const IDLE: u8 = 0b0010_0000;
+
+    pub const ACTI: u8 = 0b0001_0000;
+
+    pub const REAR: u8 = 0b0000_1000;
+
+    // Line status: read only.
+    pub const LINE_STATUS: usize = 0x04;
+
+    pub const LINE_STATUS_RESET: u8 = 0x20;
+
+    pub const LINE_STATUS_RESERVED: u8 = 0b1000_0000;
+
+    pub const SPG: u8 = 0b0100_0000;
+
+    pub const IDG: u8 = 0b0010_0000;
+
+    pub const TXG: u8 = 0b0000_0010;
+
+    pub const RXG: u8 = 0b0000_0001;
+
+    // Transmission status: read only.
+    pub const TRANSMISSION_STATUS: usize = 0x05;
+
+    pub const TRANSMISSION_STATUS_RESET: u8 = 0x00;
+
+    pub const TRANSMISSION_STATUS_RESERVED: u8 = 0;
+
+    // Last message status: read only.
+    pub const LAST_MESSAGE_STATUS: usize = 0x06;
+
+    pub const LAST_MESSAGE_STATUS_RESET: u8 = 0x00;
+
+    pub const LAST_MESSAGE_STATUS_RESERVED: u8 = 0;
+
+    // Last error status: read only.
+    pub const LAST_ERROR_STATUS: usize = 0x07;
+
+    pub const LAST_ERROR_STATUS_RESET: u8 = 0x00;
+
+    pub const LAST_ERROR_STATUS_RESERVED: u8 = 0b1001_0000;
+
+    // Interrupt status: read only. Enable and reset have the same places.
+    pub const INTERRUPT_STATUS: usize = 0x09;
+
+    pub const INTERRUPT_STATUS_RESET: u8 = 0x80;
+
+    pub const INTERRUPT_STATUS_RESERVED: u8 = 0b0110_0000;
+
+    pub const RST: u8 = 0b1000_0000;
+
+    pub const TE: u8 = 0b0001_0000;
+
+    pub const TOK: u8 = 0b0000_1000;
+
+    pub const RE: u8 = 0b0000_0100;
+
+    pub const ROK: u8 = 0b0000_0010;
+
+    pub const RNOK: u8 = 0b0000_0001;
+
+    // Interrupt enable: read and write.
     pub const INTERRUPT_ENABLE: usize = 0x0A;
 
     pub const INTERRUPT_ENABLE_RESET: u8 = 0x80;
 
     pub const INTERRUPT_ENABLE_RESERVED: u8 = 0b0110_0000;
 
-    // Write only: 0x03, 0x0B.
-    pub const COMMAND: usize = 0x03;
-
-    pub const COMMAND_FIXED: u8 = 0b0000_0110;
-
+    // Interrupt reset: write only, no reset value.
     pub const INTERRUPT_RESET: usize = 0x0B;
 
     pub const INTERRUPT_RESET_RESERVED: u8 = 0b0110_0000;
-
-    // Read only: 0x04 to 0x07, 0x09.
-    pub const LINE_STATUS: usize = 0x04;
-
-    pub const LINE_STATUS_RESET: u8 = 0x20;
-
-    pub const TRANSMISSION_STATUS: usize = 0x05;
-
-    pub const TRANSMISSION_STATUS_RESET: u8 = 0x00;
-
-    pub const LAST_MESSAGE_STATUS: usize = 0x06;
-
-    pub const LAST_MESSAGE_STATUS_RESET: u8 = 0x00;
-
-    pub const LAST_ERROR_STATUS: usize = 0x07;
-
-    pub const LAST_ERROR_STATUS_RESET: u8 = 0x00;
-
-    pub const INTERRUPT_STATUS: usize = 0x09;
-
-    pub const INTERRUPT_STATUS_RESET: u8 = 0x80;
 
     // Reserved: 0x08, 0x0C to 0x0F.
     pub const RESERVED: usize = 0x08;
@@ -85,83 +140,70 @@ impl Map {
 
     pub const RESERVED_TO: usize = 0x0F;
 
+    // The reset value of a register; 0 where it has none.
+    fn reset_value(address: usize) -> u8
+        requires { ⌜ address < 16 ⌝ }
+        ensures { λ r. ⌜ r ≡ rule.resetValue address ⌝ }
+    {
+        RESETS[address]
+    }
+
+    // The bits of a register that document 000 reserves or marks X, and the version.
+    fn reserved_bits(address: usize) -> u8
+        requires { ⌜ address < 16 ⌝ }
+        ensures { λ r. ⌜ r ≡ rule.reservedBits address ⌝ }
+    {
+        RESERVED_BITS[address]
+    }
+
     // Whether a host may only read the address.
     pub fn read_only(address: usize) -> bool
         ensures { λ r. ⌜ r ≡ rule.readOnly address ⌝ }
     {
-        if address == Map::INTERRUPT_STATUS {
-            return true;
-        }
-        (Map::LINE_STATUS <= address) & (address <= Map::LAST_ERROR_STATUS)
+        ((Map::LINE_STATUS <= address) & (address <= Map::LAST_ERROR_STATUS))
+            | (address == Map::INTERRUPT_STATUS)
     }
 
     // Whether a host may only write the address.
     pub fn write_only(address: usize) -> bool
         ensures { λ r. ⌜ r ≡ rule.writeOnly address ⌝ }
     {
-        if address == Map::COMMAND {
-            return true;
-        }
-        address == Map::INTERRUPT_RESET
+        (address == Map::COMMAND) | (address == Map::INTERRUPT_RESET)
     }
 
     // Whether a host may neither read nor write the address.
     pub fn reserved(address: usize) -> bool
         ensures { λ r. ⌜ r ≡ rule.reserved address ⌝ }
     {
-        if address == Map::RESERVED {
-            return true;
-        }
-        (Map::RESERVED_FROM <= address) & (address <= Map::RESERVED_TO)
+        (address == Map::RESERVED)
+            | ((Map::RESERVED_FROM <= address) & (address <= Map::RESERVED_TO))
     }
 
-    // Whether the fixed bits of 0x01 (version 001) and of 0x03 (zeros) are as they must be.
+    // Whether the reserved bits of 0x01 (version 001) and of 0x03 (zeros) are as they must be. The others are kept as written (house).
     pub fn fixed_bits(address: usize, value: u8) -> bool
         ensures { λ r. ⌜ r ≡ rule.fixedBits address value ⌝ }
     {
         if address == Map::TRANSMIT_CONTROL {
-            return value & Map::TRANSMIT_CONTROL_FIXED == Map::TRANSMIT_CONTROL_VERSION;
+            return value & Map::reserved_bits(Map::TRANSMIT_CONTROL) == Map::VERSION;
         }
         if address == Map::COMMAND {
-            return value & Map::COMMAND_FIXED == 0;
+            return value & Map::reserved_bits(Map::COMMAND) == 0;
         }
         true
-    }
-
-    // The bits of a register that document 000 reserves. Nothing calls it: it ties the constants.
-    fn reserved_bits(address: usize) -> u8
-        ensures { λ r. ⌜ r ≡ reserved.reservedBits address ⌝ }
-    {
-        if address == Map::LINE_CONTROL {
-            return Map::LINE_CONTROL_RESERVED;
-        }
-        if address == Map::TRANSMIT_CONTROL {
-            return Map::TRANSMIT_CONTROL_FIXED;
-        }
-        if address == Map::COMMAND {
-            return Map::COMMAND_FIXED;
-        }
-        if address == Map::INTERRUPT_ENABLE {
-            return Map::INTERRUPT_ENABLE_RESERVED;
-        }
-        if address == Map::INTERRUPT_RESET {
-            return Map::INTERRUPT_RESET_RESERVED;
-        }
-        0
     }
 
     // 0x00: IVRX.
     fn inverts_receive(control: u8) -> bool
         ensures { λ r. ⌜ r ≡ rule.invertsReceive control ⌝ }
     {
-        control % 2 == 1
+        control & Map::IVRX != 0
     }
 
     // 0x00: IVTX.
     fn inverts_transmit(control: u8) -> bool
         ensures { λ r. ⌜ r ≡ rule.invertsTransmit control ⌝ }
     {
-        control / 2 % 2 == 1
+        control & Map::IVTX != 0
     }
 
     // 0x01: the retry setting MR.
@@ -175,10 +217,10 @@ impl Map {
     pub fn autonomous(control: u8) -> bool
         ensures { λ r. ⌜ r ≡ rule.autonomous control ⌝ }
     {
-        control % 2 == 1 // MT
+        control & Map::MT != 0
     }
 
-    // 0x02: the input that Ma and Mb select; automatic listens to RxD0.
+    // 0x02: the input that Ma and Mb, bits 3 and 2, select; automatic listens to RxD0.
     fn selected_input(control: u8) -> u8
         ensures { λ r. ⌜ r ≡ rule.selectedInput control ⌝ }
     {
@@ -197,11 +239,11 @@ impl Map {
         ensures { λ r. ⌜ r ≡ map.asked command ⌝ }
     {
         Command {
-            reset: command / 128 == 1,
-            sleep: command / 64 % 2 == 1,
-            idle: command / 32 % 2 == 1,
-            activation: command / 16 % 2 == 1,
-            rearbitration: command / 8 % 2 == 1,
+            reset: command & Map::GRES != 0,
+            sleep: command & Map::SLEEP != 0,
+            idle: command & Map::IDLE != 0,
+            activation: command & Map::ACTI != 0,
+            rearbitration: command & Map::REAR != 0,
         }
     }
 
@@ -210,10 +252,10 @@ impl Map {
         ensures { λ r. ⌜ r ≡ memory.resetMemory m ⌝ }
     {
         let mut t = m;
-        t[Map::LINE_CONTROL] = Map::LINE_CONTROL_RESET;
-        t[Map::TRANSMIT_CONTROL] = Map::TRANSMIT_CONTROL_RESET;
-        t[Map::DIAGNOSIS_CONTROL] = Map::DIAGNOSIS_CONTROL_RESET;
-        t[Map::INTERRUPT_ENABLE] = Map::INTERRUPT_ENABLE_RESET;
+        t[Map::LINE_CONTROL] = Map::reset_value(Map::LINE_CONTROL);
+        t[Map::TRANSMIT_CONTROL] = Map::reset_value(Map::TRANSMIT_CONTROL);
+        t[Map::DIAGNOSIS_CONTROL] = Map::reset_value(Map::DIAGNOSIS_CONTROL);
+        t[Map::INTERRUPT_ENABLE] = Map::reset_value(Map::INTERRUPT_ENABLE);
         t
     }
 
@@ -232,23 +274,55 @@ impl Map {
             },
             error: Map::LAST_ERROR_STATUS_RESET,
             flags: Flags {
-                rst: Map::INTERRUPT_STATUS_RESET / 128 == 1,
-                te: Map::INTERRUPT_STATUS_RESET / 16 % 2 == 1,
-                tok: Map::INTERRUPT_STATUS_RESET / 8 % 2 == 1,
-                re: Map::INTERRUPT_STATUS_RESET / 4 % 2 == 1,
-                rok: Map::INTERRUPT_STATUS_RESET / 2 % 2 == 1,
-                rnok: Map::INTERRUPT_STATUS_RESET % 2 == 1,
+                rst: Map::INTERRUPT_STATUS_RESET & Map::RST != 0,
+                te: Map::INTERRUPT_STATUS_RESET & Map::TE != 0,
+                tok: Map::INTERRUPT_STATUS_RESET & Map::TOK != 0,
+                re: Map::INTERRUPT_STATUS_RESET & Map::RE != 0,
+                rok: Map::INTERRUPT_STATUS_RESET & Map::ROK != 0,
+                rnok: Map::INTERRUPT_STATUS_RESET & Map::RNOK != 0,
             },
         }
     }
-
-    // 0x04 after a reset: idle, no frame. Nothing calls it: it ties the constant.
-    fn reset_line_status() -> u8
-        ensures { λ r. ⌜ r ≡ rule.lineStatus false true false false ⌝ }
-    {
-        Map::LINE_STATUS_RESET
-    }
 }
+
+// By address, 0x00 to 0x0F.
+const RESETS: [u8; 16] = [
+    Map::LINE_CONTROL_RESET,
+    Map::TRANSMIT_CONTROL_RESET,
+    Map::DIAGNOSIS_CONTROL_RESET,
+    0,
+    Map::LINE_STATUS_RESET,
+    Map::TRANSMISSION_STATUS_RESET,
+    Map::LAST_MESSAGE_STATUS_RESET,
+    Map::LAST_ERROR_STATUS_RESET,
+    0,
+    Map::INTERRUPT_STATUS_RESET,
+    Map::INTERRUPT_ENABLE_RESET,
+    0,
+    0,
+    0,
+    0,
+    0,
+];
+
+const RESERVED_BITS: [u8; 16] = [
+    Map::LINE_CONTROL_RESERVED,
+    Map::TRANSMIT_CONTROL_RESERVED,
+    Map::DIAGNOSIS_CONTROL_RESERVED,
+    Map::COMMAND_RESERVED,
+    Map::LINE_STATUS_RESERVED,
+    Map::TRANSMISSION_STATUS_RESERVED,
+    Map::LAST_MESSAGE_STATUS_RESERVED,
+    Map::LAST_ERROR_STATUS_RESERVED,
+    0,
+    Map::INTERRUPT_STATUS_RESERVED,
+    Map::INTERRUPT_ENABLE_RESERVED,
+    Map::INTERRUPT_RESET_RESERVED,
+    0,
+    0,
+    0,
+    0,
+];
 
 // The codes of the last error, 0x07.
 pub struct Code {}

@@ -1,4 +1,6 @@
+pub mod Bits
 pub mod Runs
+pub mod Resets
 pub mod Matching
 pub mod Steps
 pub mod Sending

@@ -260,6 +260,11 @@ pub fn refusal_claims()
     ensures { λ _. ⌜ claims.Refusals ⌝ }
 {}
 
+// Holds the claim on the reset values; it does nothing.
+pub fn reset_claims()
+    ensures { λ _. ⌜ claims.Resets ⌝ }
+{}
+
 // Holds the claims on masks and the lowest channel; it does nothing.
 pub fn matching_claims()
     ensures { λ _. ⌜ claims.Matching ⌝ }

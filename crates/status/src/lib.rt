@@ -19,11 +19,11 @@ fn bit(flag: bool) -> u8
     0
 }
 
-// The byte of 0x04: SPG, IDG, TXG, RXG.
+// The byte of 0x04.
 pub fn line_status(asleep: bool, idle: bool, txg: bool, rxg: bool) -> u8
     ensures { λ r. ⌜ r ≡ rule.lineStatus asleep idle txg rxg ⌝ }
 {
-    bit(asleep) * 64 + bit(idle) * 32 + bit(txg) * 2 + bit(rxg)
+    bit(asleep) * Map::SPG + bit(idle) * Map::IDG + bit(txg) * Map::TXG + bit(rxg) * Map::RXG
 }
 
 // The byte of 0x05 and of 0x06.
@@ -33,23 +33,23 @@ pub fn retries_byte(r: Retries) -> u8
     r.count % 16 * 16 + r.channel % 16
 }
 
-// The byte of 0x09: RST, TE, TOK, RE, ROK, RNOK.
+// The byte of 0x09.
 pub fn interrupt_status(f: Flags) -> u8
     ensures { λ r. ⌜ r ≡ rule.interruptStatus f ⌝ }
 {
-    bit(f.rst) * 128
-        + bit(f.te) * 16
-        + bit(f.tok) * 8
-        + bit(f.re) * 4
-        + bit(f.rok) * 2
-        + bit(f.rnok)
+    bit(f.rst) * Map::RST
+        + bit(f.te) * Map::TE
+        + bit(f.tok) * Map::TOK
+        + bit(f.re) * Map::RE
+        + bit(f.rok) * Map::ROK
+        + bit(f.rnok) * Map::RNOK
 }
 
-// A status bit, cleared where it is named.
-fn unless(flag: bool, named: bool) -> bool
-    ensures { λ r. ⌜ r ≡ rule.unless flag named ⌝ }
+// A status bit, unless it is reset.
+fn unless(flag: bool, reset: bool) -> bool
+    ensures { λ r. ⌜ r ≡ rule.unless flag reset ⌝ }
 {
-    if named {
+    if reset {
         return false;
     }
     flag
@@ -60,12 +60,12 @@ pub fn cleared(f: Flags, value: u8) -> Flags
     ensures { λ r. ⌜ r ≡ rule.cleared f value ⌝ }
 {
     Flags {
-        rst: unless(f.rst, value / 128 == 1),
-        te: unless(f.te, value / 16 % 2 == 1),
-        tok: unless(f.tok, value / 8 % 2 == 1),
-        re: unless(f.re, value / 4 % 2 == 1),
-        rok: unless(f.rok, value / 2 % 2 == 1),
-        rnok: unless(f.rnok, value % 2 == 1),
+        rst: unless(f.rst, value & Map::RST != 0),
+        te: unless(f.te, value & Map::TE != 0),
+        tok: unless(f.tok, value & Map::TOK != 0),
+        re: unless(f.re, value & Map::RE != 0),
+        rok: unless(f.rok, value & Map::ROK != 0),
+        rnok: unless(f.rnok, value & Map::RNOK != 0),
     }
 }
 
@@ -73,22 +73,7 @@ pub fn cleared(f: Flags, value: u8) -> Flags
 fn asserted(f: Flags, enable: u8) -> bool
     ensures { λ r. ⌜ r ≡ rule.asserted f enable ⌝ }
 {
-    if (f.rst) & (enable / 128 == 1) {
-        return true;
-    }
-    if (f.te) & (enable / 16 % 2 == 1) {
-        return true;
-    }
-    if (f.tok) & (enable / 8 % 2 == 1) {
-        return true;
-    }
-    if (f.re) & (enable / 4 % 2 == 1) {
-        return true;
-    }
-    if (f.rok) & (enable / 2 % 2 == 1) {
-        return true;
-    }
-    (f.rnok) & (enable % 2 == 1)
+    interrupt_status(f) & enable != 0
 }
 
 // The interrupt line.

@@ -1,4 +1,5 @@
 use borrow.Author.Needs.{needs}
+use native.Mathlib.Nat.{add-zero}
 use Rattle.rules.specs.Definitions.Channels.{channelAt}
 use Rattle.channels.proofs.channel_at.Statement.{statement}
 use Rattle.channels.proofs.channel_at.Tie as tie
@@ -19,4 +20,5 @@ channel-at-spec =
     (λ c. search needs)
     (λ c. search needs)
     (λ c. search needs)
-    (λ c. simp (← (c .before .before .before .before .before .before .base .ensures .0))))
+    (λ c. search needs)
+    (λ c. simp (add-zero, ← (c .before .before .before .before .before .before .base .ensures .0))))

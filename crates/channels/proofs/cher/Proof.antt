@@ -1,5 +1,5 @@
-use mathlib.Core.Path.{refl}
 use Rattle.rules.specs.Definitions.Channels.{cher}
+use Rattle.rules.proofs.Bits.{masked}
 use Rattle.channels.proofs.cher.Statement.{statement}
 use Rattle.channels.proofs.cher.Tie as tie
 
@@ -7,4 +7,4 @@ pub cher-spec : {M : Type 1} → statement M
 unfolding cher
 cher-spec =
     tie.close (tie.spec
-    (λ c. refl))
+    (λ c. masked (c .args .status) 2))

@@ -1,5 +1,5 @@
-use mathlib.Core.Path.{refl}
 use Rattle.rules.specs.Definitions.Channels.{remote}
+use Rattle.rules.proofs.Bits.{masked}
 use Rattle.channels.proofs.remote.Statement.{statement}
 use Rattle.channels.proofs.remote.Tie as tie
 
@@ -7,4 +7,4 @@ pub remote-spec : {M : Type 1} → statement M
 unfolding remote
 remote-spec =
     tie.close (tie.spec
-    (λ c. refl))
+    (λ c. masked (c .args .low) 0))

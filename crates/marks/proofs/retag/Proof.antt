@@ -1,4 +1,5 @@
 use borrow.Author.Needs.{needs}
+use native.Mathlib.Nat.{add-zero}
 use Rattle.rules.specs.Definitions.Mailbox.{retagged}
 use Rattle.marks.proofs.retag.Statement.{statement}
 use Rattle.marks.proofs.retag.Tie as tie
@@ -15,4 +16,5 @@ retag-spec =
     (λ c. search needs)
     (λ c. search needs)
     (λ c. search needs)
-    (λ c. simp (← (c .before .base .ensures .0))))
+    (λ c. search needs)
+    (λ c. simp (add-zero, ← (c .before .base .ensures .0))))

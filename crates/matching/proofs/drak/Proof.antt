@@ -1,5 +1,5 @@
-use mathlib.Core.Path.{refl}
 use Rattle.rules.specs.Definitions.Channels.{drak}
+use Rattle.rules.proofs.Bits.{masked}
 use Rattle.matching.proofs.drak.Statement.{statement}
 use Rattle.matching.proofs.drak.Tie as tie
 
@@ -7,4 +7,4 @@ pub drak-spec : {M : Type 1} → statement M
 unfolding drak
 drak-spec =
     tie.close (tie.spec
-    (λ c. refl))
+    (λ c. masked (c .args .pointer) 7))

@@ -12,6 +12,7 @@ coded-of-spec =
     (λ c. search needs)
     (λ c. search needs)
     (λ c. search needs)
+    (λ c. search needs)
     (λ c κs. tt)
     (λ c κs. search needs)
     (λ c κs. search needs)

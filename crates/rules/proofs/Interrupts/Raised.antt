@@ -11,7 +11,7 @@ use lib.ListN.{getD}
 use Rattle.line.specs.Bits.{pick}
 use Rattle.rules.specs.Definitions.Setters.{withTe, withTok, withRe, withRok, withRnok, withActivity, withReport, withLine, withService}
 use Rattle.rules.specs.Definitions.Longest.{longestOf}
-use Rattle.rules.specs.Definitions.Registers.{both, command, interruptReset, asksReset, asksIdle, asksActivation, unless, cleared, resetReport}
+use Rattle.rules.specs.Definitions.Registers.{both, hasBit, command, interruptReset, asksReset, asksIdle, asksActivation, unless, cleared, resetReport}
 use Rattle.rules.specs.Definitions.Channels.{acknowledgeAsked}
 use Rattle.rules.specs.Statements.Bits.{bitAt}
 use Rattle.rules.specs.Definitions.Reception.{underWay, isUnderWay, unsettled, takesStart}
@@ -274,7 +274,7 @@ passed false e h = absurd (false≢true (sym e ∙ h))
 clash : {A : Type 0} {b : Bool} → b ≡ false → b ≡ true → A
 clash e h = absurd (false≢true (sym e ∙ h))
 
-unless-false : (b : Bool) (named : Bool) → b ≡ false → unless b named ≡ false
+unless-false : (b : Bool) (reset : Bool) → b ≡ false → unless b reset ≡ false
 unfolding unless
 unless-false b true e = refl
 unless-false b false e = e
@@ -364,11 +364,11 @@ stopped-exhausted s h = rw h (go (betweenAttempts (s .effort .progress)) (s .abo
 
 asks-so : (v : ℕ) → bitAt v 7 ≡ 1 → asksReset (v % 256) ≡ true
 unfolding asksReset
-asks-so v e = eq-eqb (v % 256 / 128) 1 (omega arith)
+asks-so v e = eq-eqb (v % 256 / 128 % 2) 1 (omega arith)
 
 asks-bit : (v : ℕ) → asksReset (v % 256) ≡ true → bitAt v 7 ≡ 1
 unfolding asksReset
-asks-bit v e = let d : v % 256 / 128 ≡ 1 = eqb-true (v % 256 / 128) 1 e in omega arith
+asks-bit v e = let d : v % 256 / 128 % 2 ≡ 1 = eqb-true (v % 256 / 128 % 2) 1 e in omega arith
 
 reset-raised : (c : Controller) (e : Event) → Resets c e → flagsOf (next c e) .rst ≡ true
 reset-raised c Reset (by-pin i) = go (step-of c Reset)
@@ -399,7 +399,7 @@ rst-by c =
       raised = reset-raised c;
       only =
           only-by (λ f. f .rst) c (Resets c) (λ x i. by-pin i) (λ a v x i d. let r = asks-reset a v d in by-command i (r .0) (r .1))
-          (λ f v e. unfold cleared in unless-false (f .rst) (eqb (v / 128) 1) e)
+          (λ f v e. unfold cleared in unless-false (f .rst) (hasBit v 7) e)
           (λ a v f. ended-same (λ f. f .rst) (λ f. refl) (λ f. refl) (stopped (serviceAsked (c .core .service) a v)) f)
           (λ l s e h. clash e (sym (slot-rst c (sampleOf c l)) ∙ h));
     }
@@ -442,7 +442,7 @@ tok-by c =
       raised = completes-raised c;
       only =
           only-by (λ f. f .tok) c (Completes c) (λ x i. not-at-reset x) (λ a v x i d. not-at-reset x)
-          (λ f v e. unfold cleared in unless-false (f .tok) (eqb (v / 8 % 2) 1) e)
+          (λ f v e. unfold cleared in unless-false (f .tok) (hasBit v 3) e)
           (λ a v f. ended-tok (stopped (serviceAsked (c .core .service) a v)) f ∙ ap (λ (b : Bool). pick b true (f .tok)) (stopped-sent (serviceAsked (c .core .service) a v)))
           (completes-slot c);
     }
@@ -480,7 +480,7 @@ te-by c q =
       raised = exhausts-raised c;
       only =
           only-by (λ f. f .te) c (Exhausts c) (λ x i. not-at-reset x) (λ a v x i d. not-at-reset x)
-          (λ f v e. unfold cleared in unless-false (f .te) (eqb (v / 16 % 2) 1) e)
+          (λ f v e. unfold cleared in unless-false (f .te) (hasBit v 4) e)
           (λ a v f. ended-te (stopped (serviceAsked (c .core .service) a v)) f
           ∙ ap (λ (b : Bool). pick b true (f .te)) (stopped-exhausted (serviceAsked (c .core .service) a v) (ap exhausted (effort-asked (c .core .service) a v) ∙ few-errors (c .core .service .effort) (q .retries))))
           (exhausts-slot c);
@@ -662,7 +662,7 @@ re-by c =
       raised = spoils-raised c;
       only =
           only-by (λ f. f .re) c (Spoils c) (λ x i. not-at-reset x) (λ a v x i d. not-at-reset x)
-          (λ f v e. unfold cleared in unless-false (f .re) (eqb (v / 4 % 2) 1) e)
+          (λ f v e. unfold cleared in unless-false (f .re) (hasBit v 2) e)
           (λ a v f. ended-same (λ f. f .re) (λ f. refl) (λ f. refl) (stopped (serviceAsked (c .core .service) a v)) f)
           (spoils-slot c);
     }
@@ -712,7 +712,7 @@ rok-by c =
       raised = rok-raised c;
       only =
           only-by (λ f. f .rok) c (Stores true c) (λ x i. not-at-reset x) (λ a v x i d. not-at-reset x)
-          (λ f v e. unfold cleared in unless-false (f .rok) (eqb (v / 2 % 2) 1) e)
+          (λ f v e. unfold cleared in unless-false (f .rok) (hasBit v 1) e)
           (λ a v f. ended-same (λ f. f .rok) (λ f. refl) (λ f. refl) (stopped (serviceAsked (c .core .service) a v)) f)
           (λ l s e h.
           let b = both-true (isStored (deliveryIn c (sampleOf c l))) (rak c) (passed (both (isStored (deliveryIn c (sampleOf c l))) (rak c)) e (sym (slot-rok c (sampleOf c l)) ∙ h)) in
@@ -726,7 +726,7 @@ rnok-by c =
       raised = rnok-raised c;
       only =
           only-by (λ f. f .rnok) c (Stores false c) (λ x i. not-at-reset x) (λ a v x i d. not-at-reset x)
-          (λ f v e. unfold cleared in unless-false (f .rnok) (eqb (v % 2) 1) e)
+          (λ f v e. unfold cleared in unless-false (f .rnok) (hasBit v 0) e)
           (λ a v f. ended-same (λ f. f .rnok) (λ f. refl) (λ f. refl) (stopped (serviceAsked (c .core .service) a v)) f)
           (λ l s e h.
           let b = both-true (isStored (deliveryIn c (sampleOf c l))) (not (rak c)) (passed (both (isStored (deliveryIn c (sampleOf c l))) (not (rak c))) e (sym (slot-rnok c (sampleOf c l)) ∙ h)) in
@@ -740,7 +740,6 @@ interrupts =
     record {
       asserted = line.line-shared;
       shared = line.shared-line;
-      reached = line.enable-small;
       status-read = line.status-is-read;
       enable-read = line.enable-is-read;
       places = line.places;

@@ -2,16 +2,12 @@
 use Prim.Native.Nat.{ℕ, zero, suc, _+_, _*_, _/_, _%_, _^_, _<_, min}
 use mathlib.Core.Bool.{true}
 use mathlib.Core.Path.{_≡_, refl, ap, sym, _∙_}
-use native.Mathlib.Nat.{zero-div, min-le-left, pow-succ', div-div-eq-div-mul}
 use native.Mathlib.Omega.{arith}
 use borrow.Author.Tests.{eqb-true, eq-eqb}
-use lib.Arith.{bin-ind}
-use lib.Bits.{bitAnd, bitXor, differ, and-step, xor-step, and-shr, xor-shr}
+use lib.Bits.{bitAnd, bitXor, differ, xor-step, xor-shr}
 use Rattle.rules.specs.Definitions.Channels.{matches}
 use Rattle.rules.specs.Statements.Bits.{bitAt}
-
-last-digit : (q r : ℕ) → r < 2 → (q * 2 + r) % 2 ≡ r
-last-digit q r h = omega arith
+use Rattle.rules.proofs.Bits.{last-digit, and-bit, no-bits, no-bit}
 
 differ-zero : (x y : ℕ) → differ x y ≡ 0 → x ≡ y
 differ-zero zero y h = sym h
@@ -27,28 +23,11 @@ differ-small zero y a b = b
 differ-small (suc x) zero a b = a
 differ-small (suc x) (suc y) a b = differ-small x y (omega arith) (omega arith)
 
-and-last : (a b : ℕ) → bitAnd a b % 2 ≡ min (a % 2) (b % 2)
-and-last a b = rw (and-step a b) (last-digit (bitAnd (a / 2) (b / 2)) (min (a % 2) (b % 2)) (let h = min-le-left (a % 2) (b % 2) in omega arith))
-
 xor-last : (a b : ℕ) → bitXor a b % 2 ≡ differ (a % 2) (b % 2)
 xor-last a b = rw (xor-step a b) (last-digit (bitXor (a / 2) (b / 2)) (differ (a % 2) (b % 2)) (differ-small (a % 2) (b % 2) (omega arith) (omega arith)))
 
-and-bit : (a b k : ℕ) → bitAt (bitAnd a b) k ≡ min (bitAt a k) (bitAt b k)
-and-bit a b k = rw (and-shr a b k) (and-last (a / 2 ^ k) (b / 2 ^ k))
-
 xor-bit : (a b k : ℕ) → bitAt (bitXor a b) k ≡ differ (bitAt a k) (bitAt b k)
 xor-bit a b k = rw (xor-shr a b k) (xor-last (a / 2 ^ k) (b / 2 ^ k))
-
-bit-of-half : (n k : ℕ) → bitAt (n / 2) k ≡ bitAt n (suc k)
-bit-of-half n k = rw (div-div-eq-div-mul n 2 (2 ^ k), pow-succ' 2 k)
-
-no-bits : (n : ℕ) → ((k : ℕ) → bitAt n k ≡ 0) → n ≡ 0
-no-bits =
-    bin-ind (λ (n : ℕ). ((k : ℕ) → bitAt n k ≡ 0) → n ≡ 0) (λ h. refl)
-    (λ n ih h. let q : n / 2 ≡ 0 = ih (λ k. bit-of-half n k ∙ h (suc k)) in let z : n / 1 % 2 ≡ 0 = h 0 in omega arith)
-
-no-bit : (k : ℕ) → bitAt 0 k ≡ 0
-no-bit k = rw (zero-div (2 ^ k))
 
 under-one : (x b : ℕ) → x < 2 → b ≡ 1 → min x b ≡ 0 → x ≡ 0
 under-one x b a e h = omega arith

@@ -11,9 +11,9 @@ use lib.ListN.{length, getD, set, take, drop, replicate}
 use Rattle.line.specs.Bits.{Below, none, one}
 use Rattle.line.specs.Frame.{Fits}
 use Rattle.line.proofs.Laws.{picked}
-use Rattle.rules.specs.Definitions.Registers.{transmitControl, retrySetting}
+use Rattle.rules.specs.Definitions.Registers.{transmitControl, readOnly, resetValues, retrySetting}
 use Rattle.rules.specs.Definitions.Channels.{base, bufferOf, twelve, withCher, withChtx, withChrx, channels, channelAt, lengthOf, noBuffer, ownBuffer, linkedBuffer, nobody, winnerOf, lowest, lowestListening, won, winnerFor, takes, ready, lowestReady}
-use Rattle.rules.specs.Definitions.Mailbox.{mailboxAt, statusByte, laidFrom, stored, mailboxBytes, dataIn, sentFrame, retagged, markedCher, markedChtx, markedChrx, resetMemory}
+use Rattle.rules.specs.Definitions.Mailbox.{mailboxAt, statusByte, laidFrom, stored, mailboxBytes, dataIn, sentFrame, retagged, rowsWritten, markedCher, markedChtx, markedChrx, resetMemory}
 use Rattle.rules.proofs.Ranges.Limits.{WinnerLimits}
 use Rattle.rules.specs.declared.Buffer.{Buffer}
 use Rattle.rules.specs.declared.Choice.{Choice}
@@ -107,7 +107,7 @@ unfolding markedChrx withChrx
 chrx-below b c = let h = at-below b (base c + 3) in set-below b (base c + 3) _ (omega arith)
 
 pub reset-below : {m : List ℕ} → Below 256 m → Below 256 (resetMemory m)
-unfolding resetMemory
+unfolding resetMemory rowsWritten resetValues readOnly
 reset-below b =
     set-below (set-below (set-below (set-below b _ _ (omega arith)) _ _ (omega arith)) _ _ (omega arith)) _ _ (omega arith)
 
@@ -127,11 +127,11 @@ own-buffer {m} b c =
     let h = at-below b (base c + 3) in
     picked BufferLimits (eqb (lengthOf (channelAt m c .status)) 0) noBuffer _ (λ e. no-buffer) (λ e. record { pointer = omega arith; length = omega arith })
 
-linked-buffer : {m : List ℕ} → Below 256 m → (c named : ℕ) → BufferLimits (linkedBuffer m c named)
+linked-buffer : {m : List ℕ} → Below 256 m → (c link : ℕ) → BufferLimits (linkedBuffer m c link)
 unfolding linkedBuffer
-linked-buffer {m} b c named =
-    picked BufferLimits (leb channels named) noBuffer _ (λ e. no-buffer)
-    (λ e. picked BufferLimits (eqb named c) noBuffer _ (λ d. no-buffer) (λ d. own-buffer b named))
+linked-buffer {m} b c link =
+    picked BufferLimits (leb channels link) noBuffer _ (λ e. no-buffer)
+    (λ e. picked BufferLimits (eqb link c) noBuffer _ (λ d. no-buffer) (λ d. own-buffer b link))
 
 pub buffer-limits : {m : List ℕ} → Below 256 m → (c : ℕ) → BufferLimits (bufferOf m c)
 unfolding bufferOf

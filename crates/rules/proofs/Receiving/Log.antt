@@ -11,7 +11,8 @@ use lib.ListN.{length, getD, length-append}
 use Rattle.line.specs.Bits.{pick}
 use Rattle.line.specs.Frame.{start}
 use Rattle.line.proofs.Laws.{picked}
-use Rattle.rules.specs.Definitions.Channels.{extension, reads, remote, chrx, chtx, channelAt, listensForData, listensForRequests, listens, takes, lowest, lowestListening, won, winnerFor, nobody}
+use Rattle.rules.specs.Definitions.Registers.{both, either}
+use Rattle.rules.specs.Definitions.Channels.{extension, channelAt, statusBits, receiveMessage, requestDetection, listens, takes, lowest, lowestListening, won, winnerFor, nobody}
 use Rattle.rules.specs.Definitions.Longest.{capacity}
 use Rattle.rules.specs.Definitions.Reception.{atPlace, quiet, isUnderWay, takesStart, underWay, isBody, inBody, behind, commandEnded, begun, followIn, followed, winnerTaken}
 use Rattle.rules.specs.Definitions.Hearing.{receptionAfter, hearFrame, hearQuiet}
@@ -41,10 +42,10 @@ use Rattle.rules.specs.declared.Core.{Core}
 -- ---- before the last command slot nobody takes the frame: an empty memory map has no channel that listens
 
 none-listens : (c low : ℕ) → listens (channelAt [] c) low ≡ false
-unfolding listens channelAt listensForData listensForRequests extension reads remote chrx chtx
-none-listens c low = go (eqb (low / 8 % 2) 1) (eqb (low / 2 % 2) 1) (eqb (low % 2) 1)
+unfolding listens channelAt statusBits receiveMessage requestDetection
+none-listens c low = go (extension low) (eqb (low % 4) 0b00) (eqb (low % 4) 0b11)
   where
-    go : (a b d : Bool) → pick a (pick b (pick d false false) (pick d false false)) false ≡ false
+    go : (a b d : Bool) → both a (either (both b false) (both d false)) ≡ false
     go true true true = refl
     go true true false = refl
     go true false true = refl

@@ -236,7 +236,7 @@ module _ (k : Core) (address v : ℕ) where
       left (λ x. x .service) (eqb address command) (modeCommanded k v) (pick (eqb address interruptReset) (flagsCleared k v) k) (k .service) (mode-service k v)
       (left (λ x. x .service) (eqb address interruptReset) (flagsCleared k v) k (k .service) (unfold flagsCleared in refl) refl)
 
-  unless-false : (named : Bool) → unless false named ≡ false
+  unless-false : (reset : Bool) → unless false reset ≡ false
   unfolding unless
   unless-false true = refl
   unless-false false = refl

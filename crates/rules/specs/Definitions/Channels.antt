@@ -1,35 +1,36 @@
 -- Channels, masks and links; who takes a frame, who sends (01, Memory map, Receiving, Sending; 000, Channel Registers).
 --   base, channelAt == where channel c stands, and its bytes        bufferOf == pointer and length that a channel uses, its link resolved
+--   receiveMessage, requestDetection, transmitMessage, deferredReply == the message types of a channel
 --   matches, listens, takes == whether a channel takes a frame        lowestListening, winnerFor == who takes it
 --   asksToSend, ready, lowestReady == who sends
 -- `low` is byte 1 of a frame or of a channel: identifier or tag bits 3 to 0, EXT, RAK, R/W, RTR.
 use Prim.Native.Nat.{ℕ, zero, suc, _+_, _*_, _/_, _%_}
-use mathlib.Core.Bool.{Bool, true, false}
+use mathlib.Core.Bool.{Bool, true, false, not}
 use mathlib.Core.List.{List}
 use lib.Dec.{eqb, leb}
 use lib.ListN.{getD}
 use lib.Bits.{bitAnd, bitXor}
 use Rattle.line.specs.Bits.{pick}
-use Rattle.rules.specs.Definitions.Registers.{both}
+use Rattle.rules.specs.Definitions.Registers.{both, either, hasBit}
 use Rattle.rules.specs.declared.Channel.{Channel}
 use Rattle.rules.specs.declared.Buffer.{Buffer}
 use Rattle.rules.specs.declared.Winner.{Winner}
 use Rattle.rules.specs.declared.Choice.{Choice}
 use Rattle.rules.specs.declared.Choice.the-variants.{Nothing, Lowest}
 
--- ---- the bits of byte 1
+-- ---- the bits of byte 1: EXT, RAK, R/W, RTR in bits 3 to 0
 
 unfoldable pub extension : ℕ → Bool
-extension low = eqb (low / 8 % 2) 1
+extension low = hasBit low 3
 
 unfoldable pub acknowledgeAsked : ℕ → Bool
-acknowledgeAsked low = eqb (low / 4 % 2) 1
+acknowledgeAsked low = hasBit low 2
 
 unfoldable pub reads : ℕ → Bool
-reads low = eqb (low / 2 % 2) 1
+reads low = hasBit low 1
 
 unfoldable pub remote : ℕ → Bool
-remote low = eqb (low % 2) 1
+remote low = hasBit low 0
 
 -- the twelve bits of a tag, a mask or an identifier
 unfoldable pub twelve : ℕ → ℕ → ℕ
@@ -40,7 +41,7 @@ twelve high low = high * 16 + low / 16
 abbrev pub channels : ℕ
 channels = 14
 
--- "channel c (0 to 13) at 0x10 + 8c"
+-- "channel c (0 to 13) at 0x10 + 8c"; a channel number is 0 to 13, and `% channels` gives every other number an address too
 unfoldable pub base : ℕ → ℕ
 base c = 0x10 + 8 * (c % channels)
 
@@ -60,13 +61,7 @@ unfoldable pub lengthOf : ℕ → ℕ
 lengthOf status = status / 8
 
 unfoldable pub cher : ℕ → Bool
-cher status = eqb (status / 4 % 2) 1
-
-unfoldable pub chtx : ℕ → Bool
-chtx status = eqb (status / 2 % 2) 1
-
-unfoldable pub chrx : ℕ → Bool
-chrx status = eqb (status % 2) 1
+cher status = hasBit status 2
 
 unfoldable pub withCher : ℕ → ℕ
 withCher status = status / 8 * 8 + 4 + status % 4
@@ -79,7 +74,7 @@ withChrx status = status / 2 * 2 + 1
 
 -- "+2 no-acknowledge bit DRAK and 7-bit pointer"
 unfoldable pub drak : ℕ → Bool
-drak pointer = eqb (pointer / 128) 1
+drak pointer = hasBit pointer 7
 
 -- ---- links: "M_L 0 is a link: the low four pointer bits name the channel whose pointer and length are used"
 
@@ -93,11 +88,32 @@ ownBuffer x =
 
 -- "a link to itself, to another link or above 13 makes the channel match nothing (house)"
 unfoldable pub linkedBuffer : List ℕ → ℕ → ℕ → Buffer
-linkedBuffer m c named = pick (leb channels named) noBuffer (pick (eqb named c) noBuffer (ownBuffer (channelAt m named)))
+linkedBuffer m c link = pick (leb channels link) noBuffer (pick (eqb link c) noBuffer (ownBuffer (channelAt m link)))
 
 unfoldable pub bufferOf : List ℕ → ℕ → Buffer
 bufferOf m c =
     pick (eqb (lengthOf (channelAt m c .status)) 0) (linkedBuffer m c (channelAt m c .pointer % 16)) (ownBuffer (channelAt m c))
+
+-- ---- channel status (RNW, RTR, CHTx, CHRx), "-" either; the message types are document 000's
+
+unfoldable pub statusBits : Channel → ℕ
+statusBits x = x .low % 4 * 4 + x .status % 4
+
+-- "0,1,-,0"
+unfoldable pub receiveMessage : ℕ → Bool
+receiveMessage bits = either (eqb bits 0b0100) (eqb bits 0b0110)
+
+-- "1,0,1,0"
+unfoldable pub requestDetection : ℕ → Bool
+requestDetection bits = eqb bits 0b1010
+
+-- "0,0,0,-"
+unfoldable pub transmitMessage : ℕ → Bool
+transmitMessage bits = either (eqb bits 0b0000) (eqb bits 0b0001)
+
+-- "1,0,0,1"
+unfoldable pub deferredReply : ℕ → Bool
+deferredReply bits = eqb bits 0b1001
 
 -- ---- who takes a frame
 
@@ -105,28 +121,18 @@ bufferOf m c =
 unfoldable pub matches : ℕ → ℕ → ℕ → Bool
 matches tag mask identifier = eqb (bitAnd (bitXor tag identifier) mask) 0
 
--- "0,1,-,0 takes data frames (R/W 0, RTR 0)."
-unfoldable pub listensForData : Channel → Bool
-listensForData x = pick (reads (x .low)) false (pick (chrx (x .status)) false (remote (x .low)))
-
--- "1,0,1,0 takes reply requests (1,1)"
-unfoldable pub listensForRequests : Channel → Bool
-listensForRequests x = pick (remote (x .low)) false (pick (chrx (x .status)) false (both (reads (x .low)) (chtx (x .status))))
-
--- "EXT 0, or R/W 0 with RTR 1, is ignored without interrupt", and so is R/W 1 with RTR 0, which no status takes
+-- R/W and RTR are the frame's low two bits: "0,1,-,0 takes data frames (R/W 0, RTR 0). 1,0,1,0 takes reply requests (1,1)".
+-- "EXT 0, or R/W 0 with RTR 1, is ignored without interrupt", and so is R/W 1 with RTR 0, which no status takes.
 unfoldable pub listens : Channel → ℕ → Bool
 listens x low =
-    pick (extension low)
-    (pick (reads low) (pick (remote low) (listensForRequests x) false) (pick (remote low) false (listensForData x)))
-    false
+    both (extension low)
+    (either (both (eqb (low % 4) 0b00) (receiveMessage (statusBits x))) (both (eqb (low % 4) 0b11) (requestDetection (statusBits x))))
 
 unfoldable pub takes : List ℕ → ℕ → ℕ → ℕ → Bool
 takes m c high low =
-    pick (listens (channelAt m c) low)
-    (pick (matches (twelve (channelAt m c .high) (channelAt m c .low)) (twelve (channelAt m c .«mask_high») (channelAt m c .«mask_low»)) (twelve high low))
-    (bufferOf m c .legal)
-    false)
-    false
+    both (listens (channelAt m c) low)
+    (both (matches (twelve (channelAt m c .high) (channelAt m c .low)) (twelve (channelAt m c .«mask_high») (channelAt m c .«mask_low»)) (twelve high low))
+    (bufferOf m c .legal))
 
 unfoldable pub nobody : Winner
 nobody = record { matched = false; channel = 0; «no_acknowledge» = false; pointer = 0; length = 0 }
@@ -162,16 +168,14 @@ winnerFor m high low = won m (lowestListening m high low)
 -- "0,0,0,- or 1,0,0,1, CHER 0"
 unfoldable pub asksToSend : Channel → Bool
 asksToSend x =
-    pick (cher (x .status)) false
-    (pick (remote (x .low)) false
-    (pick (chtx (x .status)) false (pick (reads (x .low)) (chrx (x .status)) true)))
+    both (either (transmitMessage (statusBits x)) (deferredReply (statusBits x))) (not (cher (x .status)))
 
 -- "a legal M_L": status byte and at most `longest` data bytes
 unfoldable pub sendable : Buffer → ℕ → Bool
-sendable b longest = pick (b .legal) (leb (b .length) (longest + 1)) false
+sendable b longest = both (b .legal) (leb (b .length) (longest + 1))
 
 unfoldable pub ready : List ℕ → ℕ → ℕ → Bool
-ready m longest c = pick (asksToSend (channelAt m c)) (sendable (bufferOf m c) longest) false
+ready m longest c = both (asksToSend (channelAt m c)) (sendable (bufferOf m c) longest)
 
 unfoldable pub lowestReady : List ℕ → ℕ → Choice
 lowestReady m longest = lowest (ready m longest) channels 0

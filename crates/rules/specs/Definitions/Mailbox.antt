@@ -10,7 +10,7 @@ use Rattle.line.specs.Bits.{pick}
 use Rattle.line.specs.Check.{check}
 use Rattle.line.specs.Frame.{Frame, covered}
 use Rattle.rules.specs.Definitions.Longest.{capacity}
-use Rattle.rules.specs.Definitions.Registers.{lineControl, transmitControl, diagnosisControl, interruptEnable}
+use Rattle.rules.specs.Definitions.Registers.{readOnly, resetValues}
 use Rattle.rules.specs.Definitions.Channels.{base, bufferOf, twelve, withCher, withChtx, withChrx}
 use Rattle.rules.specs.declared.Coded.{Coded}
 
@@ -74,6 +74,13 @@ markedChtx m c = set m (base c + 3) (withChtx (getD m (base c + 3) 0))
 unfoldable pub markedChrx : List ℕ → ℕ → List ℕ
 markedChrx m c = set m (base c + 3) (withChrx (getD m (base c + 3) 0))
 
--- "Reset values: 0x01 is 0x02, 0x02 is 0x00 .. Others as document 000"; "Reset, by pin or GRES, leaves both" channels and mailbox
+-- ---- reset
+
+-- the rows of a table (address, byte) written to the map, but for the registers that the controller writes: those are not kept there
+unfoldable pub rowsWritten : List (ℕ × ℕ) → List ℕ → List ℕ
+rowsWritten [] m = m
+rowsWritten (row ∷ rows) m = rowsWritten rows (pick (readOnly (row .0)) m (set m (row .0) (row .1)))
+
+-- "Reset, by pin or GRES, leaves both" channels and mailbox
 unfoldable pub resetMemory : List ℕ → List ℕ
-resetMemory m = set (set (set (set m lineControl 0x00) transmitControl 0x02) diagnosisControl 0x00) interruptEnable 0x80
+resetMemory m = rowsWritten resetValues m

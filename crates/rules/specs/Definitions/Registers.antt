@@ -1,11 +1,14 @@
 -- The control registers (01, Memory map; 000, Control and Status Registers).
---   lineControl .. interruptReset == the registers' addresses        readOnly, writeOnly, reserved, fixedBits == what a host may do
+--   lineControl .. interruptReset == the registers' addresses        resetValues, reservedBits == a byte for each address
+--   readOnly, writeOnly, reserved, fixedBits == what a host may do
 --   retrySetting, autonomous, selectedInput, .. == the fields of the registers that the host writes
 --   lineStatus, retriesByte, interruptStatus == the bytes of the registers that the controller writes
 --   asserted == the interrupt line        sampled, transmitted == levels after the inversions
-use Prim.Native.Nat.{ℕ, _+_, _-_, _*_, _/_, _%_}
-use mathlib.Core.Bool.{Bool, true, false}
+use Prim.Native.Nat.{ℕ, _+_, _-_, _*_, _/_, _%_, _^_}
+use mathlib.Core.Bool.{Bool, true, false, not}
+use mathlib.Core.List.{List, [], _∷_}
 use lib.Dec.{eqb, leb}
+use lib.Bits.{bitAnd}
 use Rattle.line.specs.Bits.{pick}
 use Rattle.rules.specs.declared.Flags.{Flags}
 use Rattle.rules.specs.declared.Retries.{Retries}
@@ -14,6 +17,14 @@ use Rattle.rules.specs.declared.Report.{Report}
 abbrev pub both : Bool → Bool → Bool
 both true b = b
 both false b = false
+
+abbrev pub either : Bool → Bool → Bool
+either true b = true
+either false b = b
+
+-- bit k of a number is one; bit 0 is the lowest
+abbrev pub hasBit : ℕ → ℕ → Bool
+hasBit v k = eqb (v / 2 ^ k % 2) 1
 
 -- ---- addresses
 
@@ -52,35 +63,78 @@ interruptReset = 0x0B
 
 -- "Read only: 0x04 to 0x07, 0x09."
 unfoldable pub readOnly : ℕ → Bool
-readOnly a = pick (eqb a interruptStatusAt) true (both (leb lineStatusAt a) (leb a lastErrorStatus))
+readOnly a = either (both (leb lineStatusAt a) (leb a lastErrorStatus)) (eqb a interruptStatusAt)
 
 -- "Write only: 0x03, 0x0B."
 unfoldable pub writeOnly : ℕ → Bool
-writeOnly a = pick (eqb a command) true (eqb a interruptReset)
+writeOnly a = either (eqb a command) (eqb a interruptReset)
 
 -- "Reserved: 0x08, 0x0C to 0x0F."
 unfoldable pub reserved : ℕ → Bool
-reserved a = pick (eqb a 0x08) true (both (leb 0x0C a) (leb a 0x0F))
+reserved a = either (eqb a 0x08) (both (leb 0x0C a) (leb a 0x0F))
 
--- "0x01: .. version 001 in bits 3 to 1"; "0x03: bits 2 and 1 must be zero." Every other bit is kept as written (house).
+-- ---- a byte for each address, as rows (address, byte)
+
+-- the byte in the row of address a; 0 where it has no row
+unfoldable pub rowAt : List (ℕ × ℕ) → ℕ → ℕ
+rowAt [] a = 0
+rowAt (row ∷ rows) a = pick (eqb a (row .0)) (row .1) (rowAt rows a)
+
+-- "Reset values: 0x01 is 0x02, 0x02 is 0x00, 0x04 is 0x20 (unfixed bits taken as 0). Others as document 000."
+-- Document 000 gives 0x03 and 0x0B none: they are write only.
+unfoldable pub resetValues : List (ℕ × ℕ)
+resetValues =
+    (lineControl, 0x00)
+    ∷ (transmitControl, 0x02)
+    ∷ (diagnosisControl, 0x00)
+    ∷ (lineStatusAt, 0x20)
+    ∷ (transmissionStatus, 0x00)
+    ∷ (lastMessageStatus, 0x00)
+    ∷ (lastErrorStatus, 0x00)
+    ∷ (interruptStatusAt, 0x80)
+    ∷ (interruptEnable, 0x80)
+    ∷ []
+
+unfoldable pub resetValue : ℕ → ℕ
+resetValue a = rowAt resetValues a
+
+-- the bits that document 000 reserves or marks X, and the version of 0x01; 0x02, 0x05 and 0x06 have none
+unfoldable pub reservedRows : List (ℕ × ℕ)
+reservedRows =
+    (lineControl, 0b00000100)
+    ∷ (transmitControl, 0b00001110)
+    ∷ (command, 0b00000110)
+    ∷ (lineStatusAt, 0b10000000)
+    ∷ (lastErrorStatus, 0b10010000)
+    ∷ (interruptStatusAt, 0b01100000)
+    ∷ (interruptEnable, 0b01100000)
+    ∷ (interruptReset, 0b01100000)
+    ∷ []
+
+unfoldable pub reservedBits : ℕ → ℕ
+reservedBits a = rowAt reservedRows a
+
+-- "0x01: .. version 001 in bits 3 to 1"; "0x03: bits 2 and 1 must be zero. Other reserved bits are kept as written (house)."
 unfoldable pub fixedBits : ℕ → ℕ → Bool
-fixedBits a v = pick (eqb a transmitControl) (eqb (v / 2 % 8) 1) (pick (eqb a command) (eqb (v / 2 % 4) 0) true)
+fixedBits a v =
+    pick (eqb a transmitControl) (eqb (bitAnd v (reservedBits transmitControl)) 0b00000010)
+    (pick (eqb a command) (eqb (bitAnd v (reservedBits command)) 0) true)
 
 -- ---- the fields that the host writes
 
 -- 0x00: IVRX in bit 0, IVTX in bit 1
 unfoldable pub invertsReceive : ℕ → Bool
-invertsReceive v = eqb (v % 2) 1
+invertsReceive v = hasBit v 0
 
 unfoldable pub invertsTransmit : ℕ → Bool
-invertsTransmit v = eqb (v / 2 % 2) 1
+invertsTransmit v = hasBit v 1
 
 -- 0x01: "retry setting MR in bits 7 to 4 .. module type MT in bit 0"
 unfoldable pub retrySetting : ℕ → ℕ
 retrySetting v = v / 16
 
 unfoldable pub autonomous : ℕ → Bool
-autonomous v = eqb (v % 2) 1
+autonomous v = hasBit v 0
 
 -- 0x02: Ma in bit 3, Mb in bit 2: 00 RxD0, 01 RxD2, 10 RxD1, 11 automatic, which "listens to RxD0"
 unfoldable pub selectedInput : ℕ → ℕ
@@ -88,19 +142,19 @@ selectedInput v = pick (eqb (v / 4 % 4) 1) 2 (pick (eqb (v / 4 % 4) 2) 1 0)
 
 -- 0x03: GRES, SLEEP, IDLE, ACTI, REAR in bits 7 to 3
 unfoldable pub asksReset : ℕ → Bool
-asksReset v = eqb (v / 128) 1
+asksReset v = hasBit v 7
 
 unfoldable pub asksSleep : ℕ → Bool
-asksSleep v = eqb (v / 64 % 2) 1
+asksSleep v = hasBit v 6
 
 unfoldable pub asksIdle : ℕ → Bool
-asksIdle v = eqb (v / 32 % 2) 1
+asksIdle v = hasBit v 5
 
 unfoldable pub asksActivation : ℕ → Bool
-asksActivation v = eqb (v / 16 % 2) 1
+asksActivation v = hasBit v 4
 
 unfoldable pub asksRearbitration : ℕ → Bool
-asksRearbitration v = eqb (v / 8 % 2) 1
+asksRearbitration v = hasBit v 3
 
 -- ---- the registers that the controller writes
 
@@ -137,7 +191,7 @@ bit b = pick b 1 0
 unfoldable pub lineStatus : Bool → Bool → Bool → Bool → ℕ
 lineStatus asleep idle txg rxg = bit asleep * 64 + bit idle * 32 + bit txg * 2 + bit rxg
 
--- 0x05 and 0x06: retries in bits 7 to 4, channel in bits 3 to 0
+-- 0x05 and 0x06: retries in bits 7 to 4, channel in bits 3 to 0; a reached state has both below 16, `% 16` fits others into the byte
 unfoldable pub retriesByte : Retries → ℕ
 retriesByte r = r .count % 16 * 16 + r .channel % 16
 
@@ -148,28 +202,22 @@ interruptStatus f =
 
 -- "A write to 0x0B clears the named status bits."
 unfoldable pub unless : Bool → Bool → Bool
-unless flag named = pick named false flag
+unless flag reset = pick reset false flag
 
 unfoldable pub cleared : Flags → ℕ → Flags
 cleared f v =
     record {
-      rst = unless (f .rst) (eqb (v / 128) 1);
-      te = unless (f .te) (eqb (v / 16 % 2) 1);
-      tok = unless (f .tok) (eqb (v / 8 % 2) 1);
-      re = unless (f .re) (eqb (v / 4 % 2) 1);
-      rok = unless (f .rok) (eqb (v / 2 % 2) 1);
-      rnok = unless (f .rnok) (eqb (v % 2) 1);
+      rst = unless (f .rst) (hasBit v 7);
+      te = unless (f .te) (hasBit v 4);
+      tok = unless (f .tok) (hasBit v 3);
+      re = unless (f .re) (hasBit v 2);
+      rok = unless (f .rok) (hasBit v 1);
+      rnok = unless (f .rnok) (hasBit v 0);
     }
 
 -- "The interrupt line is asserted when status and enable share a one."
 unfoldable pub asserted : Flags → ℕ → Bool
-asserted f enable =
-    pick (both (f .rst) (eqb (enable / 128) 1)) true
-    (pick (both (f .te) (eqb (enable / 16 % 2) 1)) true
-    (pick (both (f .tok) (eqb (enable / 8 % 2) 1)) true
-    (pick (both (f .re) (eqb (enable / 4 % 2) 1)) true
-    (pick (both (f .rok) (eqb (enable / 2 % 2) 1)) true
-    (both (f .rnok) (eqb (enable % 2) 1))))))
+asserted f enable = not (eqb (bitAnd (interruptStatus f) enable) 0)
 
 -- ---- levels
 
@@ -177,6 +225,7 @@ asserted f enable =
 unfoldable pub inputLevel : ℕ → ℕ → ℕ
 inputLevel levels input = pick (eqb input 1) (levels / 2 % 2) (pick (eqb input 2) (levels / 4 % 2) (levels % 2))
 
+-- a level is 0 or 1; `% 2` takes any other number for one
 unfoldable pub inverted : ℕ → Bool → ℕ
 inverted level inverts = pick inverts (1 - level % 2) level
 

@@ -1,14 +1,16 @@
--- What is claimed of the controller's rules: refusals, matching, sending, receiving, closed runs.
+-- What is claimed of the controller's rules: refusals, reset values, matching, sending, receiving, closed runs.
 use Prim.Native.Nat.{ℕ, _≤_, _<_}
 use mathlib.Core.Bool.{Bool, true, false}
 use mathlib.Core.List.{List, [], _∷_, _++_}
 use mathlib.Core.Path.{_≡_}
-use lib.ListN.{take}
+use lib.ListN.{length, take}
 use Rattle.line.specs.Frame.{slots}
+use Rattle.rules.specs.Definitions.Registers.{resetValues}
 use Rattle.rules.specs.Definitions.Channels.{matches, lowest}
 use Rattle.rules.specs.Statements.Bits.{bitAt}
 use Rattle.rules.specs.Definitions.State.{inRange}
 use Rattle.rules.specs.Definitions.Slots.{drives}
+use Rattle.rules.specs.Definitions.Host.{resetAll, byteRead}
 use Rattle.rules.specs.Definitions.Run.{fresh, step, after}
 use Rattle.rules.specs.Statements.Tally.{none}
 use Rattle.rules.specs.Statements.Sending.{Kept}
@@ -26,6 +28,15 @@ pub record Refusals : Type 0 where
   pub zero-elsewhere : (c : Controller) (e : Event) → (step c e .refused ≡ 0 → ⊥) → step c e .value ≡ 0
   pub in-range : (es : List Event) → inRange (after fresh es .core) ≡ true
   pub never-six : (es : List Event) (e : Event) → step (after fresh es) e .refused ≡ 6 → ⊥
+
+-- a host reads the byte of each row (address, byte)
+abbrev pub ReadsAs : Controller → List (ℕ × ℕ) → Type 0
+ReadsAs c [] = Unit {0}
+ReadsAs c (row ∷ rows) = (byteRead c (row .0) ≡ row .1) × ReadsAs c rows
+
+-- "Each control register has a name, an address and a reset value that belong to it": a host reads it after a reset, by pin or GRES
+pub record Resets : Type 0 where
+  pub reads : (c : Controller) → length (c .memory) ≡ 256 → ReadsAs (resetAll c) resetValues
 
 pub record Matching : Type 0 where
   -- "A frame matches when every tag bit under a mask one equals the identifier's": then, and only then

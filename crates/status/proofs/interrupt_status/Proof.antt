@@ -1,4 +1,5 @@
 use borrow.Author.Needs.{needs}
+use native.Mathlib.Nat.{mul-one}
 use Rattle.rules.specs.Definitions.Registers.{interruptStatus}
 use Rattle.status.proofs.interrupt_status.Statement.{statement}
 use Rattle.status.proofs.interrupt_status.Tie as tie
@@ -23,4 +24,5 @@ interrupt-status-spec =
     (λ c. search needs)
     (λ c κs. tt)
     (λ c. search needs)
-    (λ c. simp (← (c .bit6 .ensures .0), ← (c .before .bit5 .ensures .0), ← (c .before .before .bit4 .ensures .0), ← (c .before .before .before .bit3 .ensures .0), ← (c .before .before .before .before .bit2 .ensures .0), ← (c .before .before .before .before .before .bit .ensures .0))))
+    (λ c. search needs)
+    (λ c. simp (mul-one, ← (c .bit6 .ensures .0), ← (c .before .bit5 .ensures .0), ← (c .before .before .bit4 .ensures .0), ← (c .before .before .before .bit3 .ensures .0), ← (c .before .before .before .before .bit2 .ensures .0), ← (c .before .before .before .before .before .bit .ensures .0))))

@@ -1,4 +1,5 @@
 use borrow.Author.Needs.{needs}
+use native.Mathlib.Nat.{mul-one}
 use Rattle.rules.specs.Definitions.Registers.{lineStatus}
 use Rattle.status.proofs.line_status.Statement.{statement}
 use Rattle.status.proofs.line_status.Tie as tie
@@ -17,4 +18,5 @@ line-status-spec =
     (λ c. search needs)
     (λ c κs. tt)
     (λ c. search needs)
-    (λ c. simp (← (c .bit4 .ensures .0), ← (c .before .bit3 .ensures .0), ← (c .before .before .bit2 .ensures .0), ← (c .before .before .before .bit .ensures .0))))
+    (λ c. search needs)
+    (λ c. simp (mul-one, ← (c .bit4 .ensures .0), ← (c .before .bit3 .ensures .0), ← (c .before .before .bit2 .ensures .0), ← (c .before .before .before .bit .ensures .0))))

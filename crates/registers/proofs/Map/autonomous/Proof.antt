@@ -1,5 +1,5 @@
-use mathlib.Core.Path.{refl}
 use Rattle.rules.specs.Definitions.Registers.{autonomous}
+use Rattle.rules.proofs.Bits.{masked}
 use Rattle.registers.proofs.Map.autonomous.Statement.{statement}
 use Rattle.registers.proofs.Map.autonomous.Tie as tie
 
@@ -7,4 +7,4 @@ pub autonomous-spec : {M : Type 1} → statement M
 unfolding autonomous
 autonomous-spec =
     tie.close (tie.spec
-    (λ c. refl))
+    (λ c. masked (c .args .control) 0))

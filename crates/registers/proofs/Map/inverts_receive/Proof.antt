@@ -1,5 +1,5 @@
-use mathlib.Core.Path.{refl}
 use Rattle.rules.specs.Definitions.Registers.{invertsReceive}
+use Rattle.rules.proofs.Bits.{masked}
 use Rattle.registers.proofs.Map.inverts_receive.Statement.{statement}
 use Rattle.registers.proofs.Map.inverts_receive.Tie as tie
 
@@ -7,4 +7,4 @@ pub inverts-receive-spec : {M : Type 1} → statement M
 unfolding invertsReceive
 inverts-receive-spec =
     tie.close (tie.spec
-    (λ c. refl))
+    (λ c. masked (c .args .control) 0))

@@ -1,5 +1,5 @@
-use mathlib.Core.Path.{refl}
 use Rattle.rules.specs.Definitions.Registers.{invertsTransmit}
+use Rattle.rules.proofs.Bits.{masked}
 use Rattle.registers.proofs.Map.inverts_transmit.Statement.{statement}
 use Rattle.registers.proofs.Map.inverts_transmit.Tie as tie
 
@@ -7,4 +7,4 @@ pub inverts-transmit-spec : {M : Type 1} → statement M
 unfolding invertsTransmit
 inverts-transmit-spec =
     tie.close (tie.spec
-    (λ c. refl))
+    (λ c. masked (c .args .control) 1))

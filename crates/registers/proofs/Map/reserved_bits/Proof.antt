@@ -1,15 +1,12 @@
-use borrow.Author.Tests.{eq-eqb, ne-eqb}
-use Rattle.registers.specs.Reserved.{reservedBits}
+use borrow.Author.Needs.{needs}
+use Rattle.rules.specs.Definitions.Registers.{rowAt, reservedRows, reservedBits}
+use Rattle.registers.proofs.Tabled.{values, at}
 use Rattle.registers.proofs.Map.reserved_bits.Statement.{statement}
 use Rattle.registers.proofs.Map.reserved_bits.Tie as tie
 
+returns : tie.Need-returns
+unfolding reservedBits rowAt reservedRows values
+returns c = at reservedBits 0 16 (c .args .address) (search needs)
+
 pub reserved-bits-spec : {M : Type 1} → statement M
-unfolding reservedBits
-reserved-bits-spec =
-    tie.close (tie.spec
-    (λ c. simp (eq-eqb _ _ (c .if1 .taken)))
-    (λ c. simp (eq-eqb _ _ (c .if2 .taken), ne-eqb _ _ (c .before .if1 .left)))
-    (λ c. simp (eq-eqb _ _ (c .if3 .taken), ne-eqb _ _ (c .before .if2 .left), ne-eqb _ _ (c .before .before .if1 .left)))
-    (λ c. simp (eq-eqb _ _ (c .if4 .taken), ne-eqb _ _ (c .before .if3 .left), ne-eqb _ _ (c .before .before .if2 .left), ne-eqb _ _ (c .before .before .before .if1 .left)))
-    (λ c. simp (eq-eqb _ _ (c .if5 .taken), ne-eqb _ _ (c .before .if4 .left), ne-eqb _ _ (c .before .before .if3 .left), ne-eqb _ _ (c .before .before .before .if2 .left), ne-eqb _ _ (c .before .before .before .before .if1 .left)))
-    (λ c. simp (ne-eqb _ _ (c .if5 .left), ne-eqb _ _ (c .before .if4 .left), ne-eqb _ _ (c .before .before .if3 .left), ne-eqb _ _ (c .before .before .before .if2 .left), ne-eqb _ _ (c .before .before .before .before .if1 .left))))
+reserved-bits-spec = tie.close (tie.spec (λ c. search needs) returns)
