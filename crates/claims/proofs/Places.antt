@@ -12,10 +12,10 @@ use lib.Seq.{getD-set-same, getD-set-other}
 use Rattle.line.specs.Bits.{pick}
 use Rattle.line.specs.Frame.{Frame, Fits}
 use Rattle.line.proofs.Laws.{picked}
-use Rattle.rules.specs.Definitions.Registers.{writeOnly}
+use Rattle.rules.specs.Definitions.Registers.{readOnly, writeOnly, resetValues}
 use Rattle.rules.specs.Definitions.Channels.{base, takes, nobody, winnerOf, lowest, lowestListening, won, winnerFor}
 use Rattle.rules.proofs.Matching.Lowest.{found}
-use Rattle.rules.specs.Definitions.Mailbox.{mailboxAt, statusByte, laidFrom, stored, retagged, markedCher, markedChtx, markedChrx, resetMemory}
+use Rattle.rules.specs.Definitions.Mailbox.{mailboxAt, statusByte, laidFrom, stored, retagged, markedCher, markedChtx, markedChrx, rowsWritten, resetMemory}
 use Rattle.rules.specs.Statements.Valid.{high, low}
 use Rattle.rules.specs.Definitions.Delivery.{memoryStored, memoryDelivered}
 use Rattle.rules.specs.Definitions.Service.{memoryEnded}
@@ -162,7 +162,7 @@ delivered-length effect.Overflowed m r = length-set m _ _
 delivered-length effect.Spoiled m r = length-set m _ _
 
 reset-length : (m : List ℕ) → length (resetMemory m) ≡ length m
-unfolding resetMemory
+unfolding resetMemory rowsWritten resetValues readOnly
 reset-length m = simp length-set
 
 written-length : (c : Controller) (a v : ℕ) → length (hostWritten c a v .memory) ≡ length (c .memory)

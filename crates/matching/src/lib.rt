@@ -176,12 +176,12 @@ fn sendable(b: Buffer, longest: u8) -> bool
     false
 }
 
-// Whether channel c is ready to send.
+// Whether channel c is ready to send. The buffer is tested first: it rules out more channels.
 fn ready(m: &[u8; 256], longest: u8, c: u8) -> bool
     ensures { λ r. ⌜ r ≡ rule.ready (now (m .entry)) longest c ⌝ }
 {
-    if asks_to_send(channels::channel_at(m, c)) {
-        return sendable(channels::buffer_of(m, c), longest);
+    if sendable(channels::buffer_of(m, c), longest) {
+        return asks_to_send(channels::channel_at(m, c));
     }
     false
 }
