@@ -1,6 +1,6 @@
 use borrow.Author.Needs.{needs}
 use Rattle.rules.specs.Definitions.Registers.{rowAt, reservedRows, reservedBits}
-use Rattle.registers.proofs.Tabled.{values, at}
+use Rattle.line.proofs.Tables.{values, at}
 use Rattle.registers.proofs.Map.reserved_bits.Statement.{statement}
 use Rattle.registers.proofs.Map.reserved_bits.Tie as tie
 

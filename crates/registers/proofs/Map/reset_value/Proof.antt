@@ -1,6 +1,6 @@
 use borrow.Author.Needs.{needs}
 use Rattle.rules.specs.Definitions.Registers.{rowAt, resetValues, resetValue}
-use Rattle.registers.proofs.Tabled.{values, at}
+use Rattle.line.proofs.Tables.{values, at}
 use Rattle.registers.proofs.Map.reset_value.Statement.{statement}
 use Rattle.registers.proofs.Map.reset_value.Tie as tie
 
