@@ -67,49 +67,82 @@ fn due(x: Coded, k: u16) -> u8
     driver::level_at(x, k)
 }
 
-// Recessive driven and dominant sampled in a plain bit or first half: contention in identifier, command and data, in the check an error.
-fn overdriven(p: Part) -> Verdict
-    ensures { λ r. ⌜ r ≡ rule.overdriven p ⌝ }
-{
-    match p {
-        Part::Start => Verdict::Failed(Code::CV),
-        Part::Identifier => Verdict::Lost,
-        Part::Command => Verdict::Lost,
-        Part::Data => Verdict::Lost,
-        Part::Check => Verdict::Failed(Code::FCSE),
-        Part::EndOfData => Verdict::Failed(Code::CV),
-        Part::Acknowledge => Verdict::Failed(Code::ACKE),
-        Part::EndOfFrame => Verdict::Failed(Code::CV),
-        Part::After => Verdict::Failed(Code::CV),
-    }
-}
-
-// Every other difference.
-fn violated(p: Part) -> Verdict
-    ensures { λ r. ⌜ r ≡ rule.violated p ⌝ }
-{
-    match p {
-        Part::Start => Verdict::Failed(Code::CV),
-        Part::Identifier => Verdict::Failed(Code::CV),
-        Part::Command => Verdict::Failed(Code::CV),
-        Part::Data => Verdict::Failed(Code::CV),
-        Part::Check => Verdict::Failed(Code::CV),
-        Part::EndOfData => Verdict::Failed(Code::CV),
-        Part::Acknowledge => Verdict::Failed(Code::ACKE),
-        Part::EndOfFrame => Verdict::Failed(Code::CV),
-        Part::After => Verdict::Failed(Code::CV),
-    }
-}
-
-// Recessive driven and dominant sampled.
-fn recessive_lost(h: Half, p: Part) -> Verdict
-    ensures { λ r. ⌜ r ≡ rule.recessiveLost h p ⌝ }
+// A plain bit or first half of a pair.
+fn open_half(h: Half) -> bool
+    ensures { λ r. ⌜ r ≡ rule.openHalf h ⌝ }
 {
     match h {
-        Half::Plain => overdriven(p),
-        Half::First => overdriven(p),
-        Half::Second => violated(p),
+        Half::Plain => true,
+        Half::First => true,
+        Half::Second => false,
     }
+}
+
+// Identifier, command or data: there contention may be lost.
+fn arbitrated(p: Part) -> bool
+    ensures { λ r. ⌜ r ≡ rule.arbitrated p ⌝ }
+{
+    match p {
+        Part::Start => false,
+        Part::Identifier => true,
+        Part::Command => true,
+        Part::Data => true,
+        Part::Check => false,
+        Part::EndOfData => false,
+        Part::Acknowledge => false,
+        Part::EndOfFrame => false,
+        Part::After => false,
+    }
+}
+
+// The check.
+fn in_check(p: Part) -> bool
+    ensures { λ r. ⌜ r ≡ rule.inCheck p ⌝ }
+{
+    match p {
+        Part::Start => false,
+        Part::Identifier => false,
+        Part::Command => false,
+        Part::Data => false,
+        Part::Check => true,
+        Part::EndOfData => false,
+        Part::Acknowledge => false,
+        Part::EndOfFrame => false,
+        Part::After => false,
+    }
+}
+
+// The acknowledge.
+fn in_acknowledge(p: Part) -> bool
+    ensures { λ r. ⌜ r ≡ rule.inAcknowledge p ⌝ }
+{
+    match p {
+        Part::Start => false,
+        Part::Identifier => false,
+        Part::Command => false,
+        Part::Data => false,
+        Part::Check => false,
+        Part::EndOfData => false,
+        Part::Acknowledge => true,
+        Part::EndOfFrame => false,
+        Part::After => false,
+    }
+}
+
+// A difference in part p; o: recessive is driven in a plain bit or first half.
+fn difference_in(p: Part, o: bool) -> Verdict
+    ensures { λ r. ⌜ r ≡ rule.differenceIn p o ⌝ }
+{
+    if (o) & (arbitrated(p)) {
+        return Verdict::Lost;
+    }
+    if (o) & (in_check(p)) {
+        return Verdict::Failed(Code::FCSE);
+    }
+    if in_acknowledge(p) {
+        return Verdict::Failed(Code::ACKE);
+    }
+    Verdict::Failed(Code::CV)
 }
 
 // A sample unlike the level due, where d is driven.
@@ -118,9 +151,9 @@ fn difference(n: u8, k: u16, d: u8) -> Verdict
 {
     let p = line::part_of(n, k);
     if d == 1 {
-        return recessive_lost(line::half_of(n, k), p);
+        return difference_in(p, open_half(line::half_of(n, k)));
     }
-    violated(p)
+    difference_in(p, false)
 }
 
 // What a sample in slot k of the fixed frame is for the attempt.

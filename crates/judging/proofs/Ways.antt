@@ -5,10 +5,16 @@ use mathlib.Core.List.{List}
 use mathlib.Core.Path.{_≡_, refl, sym, _∙_, ap}
 use Rattle.line.proofs.Laws.{pick-same}
 use Rattle.rules.specs.Definitions.Registers.{both}
+use Rattle.rules.specs.Definitions.Reception.{underWay}
 use Rattle.rules.specs.Definitions.Delivery.{deliveryOf, deliveryTo, memoryDelivered, reportHeard, reportDelivered}
-use Rattle.rules.specs.Definitions.Attempt.{advance, drivesFrame, judge}
-use Rattle.rules.specs.Definitions.Service.{endingOf, settled, memoryEnded, reportJudged, reportEnded, hearOwn, roleOf}
-use Rattle.rules.specs.Definitions.Slots.{heard, heardAs, delivers}
+use Rattle.rules.specs.Definitions.Attempt.{drivesFrame, judge}
+use Rattle.rules.specs.Definitions.Service.{endingOf, settled, memoryEnded, reportJudged, reportEnded, roleOf}
+use Rattle.rules.specs.Definitions.Slots.{roleIn, delivers, serviceJudged, ending, memoryJudged, reportAfter}
+use Rattle.rules.proofs.Logic.{both-true}
+use Rattle.rules.proofs.Roles.{role-sender, role-other, judge-apart}
+use Rattle.rules.specs.declared.Place.{Place}
+use Rattle.rules.specs.declared.Role.{Role}
+use Rattle.rules.specs.declared.Role.the-variants.{Nobody, Receiver, Sender}
 use Rattle.rules.specs.declared.Hearing.{Hearing}
 use Rattle.rules.specs.declared.Hearing.the-variants.{Silent, Follows, Fault, Good}
 use Rattle.rules.specs.declared.Delivery.the-variants.{Nothing}
@@ -21,15 +27,7 @@ use Rattle.rules.specs.declared.Report.{Report}
 use Rattle.rules.specs.declared.Effort.{Effort}
 use Rattle.rules.specs.declared.Service.{Service}
 use Rattle.rules.specs.declared.Core.{Core}
-use Rattle.judging.specs.Ordinary.{passes, unmarked, goes, ordinary, reportOf}
-
-both-left : (a b : Bool) → both a b ≡ true → a ≡ true
-both-left true b e = refl
-both-left false b e = e
-
-both-right : (a b : Bool) → both a b ≡ true → b ≡ true
-both-right true b e = e
-both-right false b e = absurd (false≢true e)
+use Rattle.judging.specs.Ordinary.{passes, unmarked, goes, ordinary, verdictAs}
 
 going : (x : Ending) → goes x ≡ true → x ≡ Going
 going Going e = refl
@@ -45,13 +43,11 @@ undelivered Follows r e = pick-same (r .winner .matched) Nothing
 undelivered (Fault code) r e = absurd (false≢true e)
 undelivered Good r e = absurd (false≢true e)
 
-nothing : (w : Verdict) (h : Hearing) (r : Reception) → unmarked w ≡ true → passes h ≡ true → delivers w h r ≡ Nothing
-unfolding delivers unmarked
-nothing Unjudged h r u e = undelivered h r e
-nothing Goes h r u e = refl
-nothing Lost h r u e = absurd (false≢true u)
-nothing (Failed code) h r u e = absurd (false≢true u)
-nothing Done h r u e = absurd (false≢true u)
+nothing : (x : Role) (h : Hearing) (r : Reception) → passes h ≡ true → delivers x h r ≡ Nothing
+unfolding delivers
+nothing Nobody h r e = refl
+nothing Receiver h r e = undelivered h r e
+nothing Sender h r e = refl
 
 unheard : (h : Hearing) (a : Report) → passes h ≡ true → reportHeard h a ≡ a
 unfolding reportHeard passes
@@ -68,47 +64,36 @@ uncounted Lost a s u = absurd (false≢true u)
 uncounted (Failed code) a s u = absurd (false≢true u)
 uncounted Done a s u = absurd (false≢true u)
 
-module _ (w : Verdict) (h : Hearing) (s : Service) (x : Ending) (is : x ≡ endingOf w s) (e : ordinary w h x ≡ true) where
+module _ (k : Core) (w : Verdict) (h : Hearing) (s : Service) (x : Ending) (counted : s ≡ serviceJudged w (k .service)) (is : x ≡ endingOf w s) (e : ordinary w h x ≡ true) where
   pass : passes h ≡ true
   unfolding ordinary
-  pass = both-left (passes h) (both (unmarked w) (goes x)) e
+  pass = both-true (passes h) (both (unmarked w) (goes x)) e .0
 
-  rest : both (unmarked w) (goes x) ≡ true
+  rest : (unmarked w ≡ true) × (goes x ≡ true)
   unfolding ordinary
-  rest = both-right (passes h) (both (unmarked w) (goes x)) e
+  rest = both-true (unmarked w) (goes x) (both-true (passes h) (both (unmarked w) (goes x)) e .1)
 
-  on : endingOf w s ≡ Going
-  on = sym is ∙ going x (both-right (unmarked w) (goes x) rest)
+  on : ending k w ≡ Going
+  unfolding ending
+  on = ap (endingOf w) (sym counted) ∙ sym is ∙ going x (rest .1)
 
-  mark : unmarked w ≡ true
-  mark = both-left (unmarked w) (goes x) rest
+  pub memory-kept : (m : List ℕ) → m ≡ memoryJudged m k w h
+  unfolding memoryJudged memoryEnded memoryDelivered
+  memory-kept m = rw (on, nothing (roleIn k) h (k .reception) pass)
 
-  pub memory-kept : (m : List ℕ) (r : Reception) (c : ℕ) → m ≡ memoryEnded (endingOf w s) (memoryDelivered (delivers w h r) m r) c
-  unfolding memoryEnded memoryDelivered
-  memory-kept m r c = rw (on, nothing w h r mark pass)
+  pub report-kept : k .report ≡ reportAfter k w h
+  unfolding reportAfter reportEnded reportDelivered
+  report-kept = rw (on, nothing (roleIn k) h (k .reception) pass, unheard h (k .report) pass, uncounted w (k .report) (serviceJudged w (k .service)) (rest .0))
 
-  pub report-kept : (k : Core) → k .report ≡ reportOf k w h s
-  unfolding reportOf reportEnded reportDelivered
-  report-kept k = rw (on, nothing w h (k .reception) mark pass, unheard h (k .report) pass, uncounted w (k .report) s mark)
-
-  pub service-kept : s ≡ settled (endingOf w s) s
+  pub service-kept : s ≡ settled (ending k w) (serviceJudged w (k .service))
   unfolding settled
-  service-kept = rw on
+  service-kept = rw on counted
 
--- the model is not the sender
-pub unjudged : (e : Effort) (v : ℕ) → drivesFrame (e .progress) ≡ false → Unjudged ≡ judge e v
-unfolding judge
-unjudged e v not = rw not
-
-pub unspent : (e : Effort) (v : ℕ) → drivesFrame (e .progress) ≡ false → e ≡ advance (judge e v) e
-unfolding judge advance
-unspent e v not = rw not
-
-pub heard-other : (k : Core) (v : ℕ) (h : Hearing) → drivesFrame (k .service .effort .progress) ≡ false → h ≡ heard k Unjudged v → h ≡ heard k (judge (k .service .effort) v) v
-unfolding judge
-heard-other k v h not is = rw not is
-
--- the model is the sender
-pub heard-own : (k : Core) (v : ℕ) (w : Verdict) (h : Hearing) → drivesFrame (k .service .effort .progress) ≡ true → w ≡ judge (k .service .effort) v → h ≡ hearOwn w → h ≡ heard k (judge (k .service .effort) v) v
-unfolding heard heardAs roleOf
-heard-own k v w h does tried is = rw does (is ∙ ap hearOwn tried)
+-- the verdict by the role is that of the rule
+pub verdict-is : (e : Effort) (here : Place) (v : ℕ) → verdictAs (roleOf (e .progress) here) e v ≡ judge e v
+verdict-is e here v = go (drivesFrame (e .progress)) refl (underWay here) refl
+  where
+    go : (d : Bool) → drivesFrame (e .progress) ≡ d → (u : Bool) → underWay here ≡ u → verdictAs (roleOf (e .progress) here) e v ≡ judge e v
+    go true f u g = rw (role-sender (e .progress) here f) (unfold verdictAs in refl)
+    go false f true g = rw (role-other (e .progress) here f, g) (unfold verdictAs in sym (judge-apart e v f))
+    go false f false g = rw (role-other (e .progress) here f, g) (unfold verdictAs in sym (judge-apart e v f))

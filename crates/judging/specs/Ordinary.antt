@@ -1,22 +1,26 @@
 -- A slot by its ways: memory map and state once the sample is judged; and the ordinary slot, which touches no mailbox, no channel and no register.
---   memoryAfter, coreAfter == what the sample does, before idle, choice and start        ordinary == the slot in which neither map nor registers change        reportOf == the registers after a sample
+--   memoryAfter, coreAfter == what the sample does, before idle, choice and start        ordinary == the slot in which neither map nor registers change        verdictAs == what the sample is for the attempt, by what the model is in the frame under way
 use Prim.Native.Nat.{ℕ}
 use mathlib.Core.Bool.{Bool, true, false}
 use mathlib.Core.List.{List}
 use Rattle.rules.specs.Definitions.Registers.{both}
-use Rattle.rules.specs.Definitions.Delivery.{reportHeard, reportDelivered}
 use Rattle.rules.specs.Definitions.Attempt.{judge}
-use Rattle.rules.specs.Definitions.Service.{endingOf, reportJudged, reportEnded}
-use Rattle.rules.specs.Definitions.Slots.{heard, delivers, memoryJudged, coreJudged}
-use Rattle.rules.specs.declared.Report.{Report}
-use Rattle.rules.specs.declared.Service.{Service}
+use Rattle.rules.specs.Definitions.Slots.{heard, memoryJudged, coreJudged}
 use Rattle.rules.specs.declared.Verdict.{Verdict}
 use Rattle.rules.specs.declared.Verdict.the-variants.{Unjudged, Goes, Lost, Failed, Done}
 use Rattle.rules.specs.declared.Hearing.{Hearing}
 use Rattle.rules.specs.declared.Hearing.the-variants.{Silent, Follows, Fault, Good}
 use Rattle.rules.specs.declared.Ending.{Ending}
 use Rattle.rules.specs.declared.Ending.the-variants.{Going, Sent, Exhausted, Aborted, Rearbitrated}
+use Rattle.rules.specs.declared.Role.{Role}
+use Rattle.rules.specs.declared.Role.the-variants.{Nobody, Receiver, Sender}
+use Rattle.rules.specs.declared.Effort.{Effort}
 use Rattle.rules.specs.declared.Core.{Core}
+
+unfoldable pub verdictAs : Role → Effort → ℕ → Verdict
+verdictAs Nobody e v = Unjudged
+verdictAs Receiver e v = Unjudged
+verdictAs Sender e v = judge e v
 
 unfoldable pub memoryAfter : List ℕ → Core → ℕ → List ℕ
 memoryAfter m k v = memoryJudged m k (judge (k .service .effort) v) (heard k (judge (k .service .effort) v) v)
@@ -46,7 +50,3 @@ unmarked Done = false
 
 unfoldable pub ordinary : Verdict → Hearing → Ending → Bool
 ordinary w h x = both (passes h) (both (unmarked w) (goes x))
-
--- The registers once the sample has done its work: 0x07, what the frame did, 0x05 at an error, the end of the service.
-unfoldable pub reportOf : Core → Verdict → Hearing → Service → Report
-reportOf k w h s = reportEnded (endingOf w s) (reportJudged w (reportDelivered (delivers w h (k .reception)) (reportHeard h (k .report)) (k .reception)) s) s

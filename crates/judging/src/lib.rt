@@ -1,14 +1,12 @@
 // What a sample does: judged with its effects on memory map, registers, line, frame and service (01, Receiving and Sending).
 ghost use mathlib.Core.Path.{_≡_};
-ghost use mathlib.Core.Bool.{false};
 ghost use Rattle.rules.specs.Definitions.Slots as rule;
 ghost use Rattle.rules.specs.Definitions.Attempt as sending;
 ghost use Rattle.rules.specs.Definitions.Reception as reception_rule;
 ghost use Rattle.rules.specs.Definitions.Hearing as hearing_rule;
 ghost use Rattle.rules.specs.Definitions.Service as service_rule;
-ghost use Rattle.rules.specs.Definitions.Delivery as delivery_rule;
-ghost use Rattle.rules.specs.declared.Verdict.the-variants as verdict;
 ghost use Rattle.judging.specs.Ordinary as ordinary;
+use attempt::Trial;
 use rules::Core;
 use rules::Delivery;
 use rules::Effort;
@@ -17,11 +15,13 @@ use rules::Hearing;
 use rules::Line;
 use rules::Reception;
 use rules::Report;
+use rules::Role;
 use rules::Service;
 use rules::Verdict;
 
-// What a sample is: for the attempt, for the effort, which has it counted, and for the line.
+// What the model is in the frame under way, and what a sample is: for the attempt, for the effort, which has it counted, and for the line.
 struct Judgement {
+    role: Role,
     verdict: Verdict,
     effort: Effort,
     hearing: Hearing,
@@ -48,28 +48,43 @@ fn hear_own(w: Verdict) -> Hearing
     }
 }
 
-// For a frame that is not the model's own, or with none under way.
-fn heard(k: Core, v: u8) -> Hearing
-    requires { ⌜ sending.drivesFrame (k .service .effort .progress) ≡ false ⌝ }
-    ensures { λ r. ⌜ r ≡ rule.heard k verdict.Unjudged v ⌝ }
+// For the attempt, by what the model is in the frame under way.
+fn trial(x: Role, e: Effort, v: u8) -> Trial
+    ensures verdict { λ r. ⌜ r .verdict ≡ ordinary.verdictAs x e v ⌝ }
+    ensures effort { λ r. ⌜ r .effort ≡ sending.advance (ordinary.verdictAs x e v) e ⌝ }
 {
-    let r = k.reception;
-    if place::under_way(r.place) {
-        return hearing::hear_frame(r, line::LONGEST, v);
+    match x {
+        Role::Nobody => Trial {
+            verdict: Verdict::Unjudged,
+            effort: e,
+        },
+        Role::Receiver => Trial {
+            verdict: Verdict::Unjudged,
+            effort: e,
+        },
+        Role::Sender => attempt::tried(e, v),
     }
-    hearing::hear_quiet(k.line, v)
+}
+
+// For the line.
+fn heard(x: Role, k: Core, w: Verdict, v: u8) -> Hearing
+    ensures { λ r. ⌜ r ≡ rule.heardAs x k w v ⌝ }
+{
+    match x {
+        Role::Nobody => hearing::hear_quiet(k.line, v),
+        Role::Receiver => hearing::hear_frame(k.reception, line::LONGEST, v),
+        Role::Sender => hear_own(w),
+    }
 }
 
 // The model's own frame is not stored and touches no receiving channel.
-fn delivers(w: Verdict, h: Hearing, r: Reception) -> Delivery
-    ensures { λ d. ⌜ d ≡ rule.delivers w h r ⌝ }
+fn delivers(x: Role, h: Hearing, r: Reception) -> Delivery
+    ensures { λ d. ⌜ d ≡ rule.delivers x h r ⌝ }
 {
-    match w {
-        Verdict::Unjudged => delivery::delivery_of(h, r),
-        Verdict::Goes => Delivery::Nothing,
-        Verdict::Lost => Delivery::Nothing,
-        Verdict::Failed(_) => Delivery::Nothing,
-        Verdict::Done => Delivery::Nothing,
+    match x {
+        Role::Nobody => Delivery::Nothing,
+        Role::Receiver => delivery::delivery_of(h, r),
+        Role::Sender => Delivery::Nothing,
     }
 }
 
@@ -173,48 +188,47 @@ fn ordinary(w: Verdict, h: Hearing, x: Ending) -> bool
 }
 
 // What a sample does to map, registers and service: the store or CHER first, then the marks of a service that ends; s has the sample counted.
-fn take_effect(m: &mut [u8; 256], k: Core, w: Verdict, h: Hearing, s: Service) -> Effects
-    ensures map { λ r. ⌜ now (m .exit) ≡ service_rule.memoryEnded (service_rule.endingOf w s) (delivery_rule.memoryDelivered (rule.delivers w h (k .reception)) (now (m .entry)) (k .reception)) (k .service .channel) ⌝ }
-    ensures report { λ r. ⌜ r .report ≡ ordinary.reportOf k w h s ⌝ }
-    ensures service { λ r. ⌜ r .service ≡ service_rule.settled (service_rule.endingOf w s) s ⌝ }
+fn take_effect(m: &mut [u8; 256], k: Core, x: Role, w: Verdict, h: Hearing, s: Service) -> Effects
+    requires role { ⌜ x ≡ rule.roleIn k ⌝ }
+    requires service { ⌜ s ≡ rule.serviceJudged w (k .service) ⌝ }
+    ensures map { λ r. ⌜ now (m .exit) ≡ rule.memoryJudged (now (m .entry)) k w h ⌝ }
+    ensures report { λ r. ⌜ r .report ≡ rule.reportAfter k w h ⌝ }
+    ensures service { λ r. ⌜ r .service ≡ service_rule.settled (rule.ending k w) (rule.serviceJudged w (k .service)) ⌝ }
 {
-    let x = ending::ending_of(w, s);
-    if ordinary(w, h, x) {
+    let end = ending::ending_of(w, s);
+    if ordinary(w, h, end) {
         let report = k.report;
         return Effects { report, service: s };
     }
-    let d = delivers(w, h, k.reception);
+    let d = delivers(x, h, k.reception);
     delivery::deliver(m, d, k.reception);
-    ending::end_memory(m, x, k.service.channel);
+    ending::end_memory(m, end, k.service.channel);
     Effects {
-        report: reports::report_after(k.report, w, h, d, x, k.reception, s),
-        service: ending::settled(x, s),
+        report: reports::report_after(k.report, w, h, d, end, k.reception, s),
+        service: ending::settled(end, s),
     }
 }
 
 // ---- the sample
 
-// What it is for the attempt, for the effort and for the line.
+// Judged by what the model is in the frame under way.
 fn judge(k: Core, v: u8) -> Judgement
+    ensures role { λ r. ⌜ r .role ≡ rule.roleIn k ⌝ }
     ensures verdict { λ r. ⌜ r .verdict ≡ sending.judge (k .service .effort) v ⌝ }
     ensures effort { λ r. ⌜ r .effort ≡ sending.advance (sending.judge (k .service .effort) v) (k .service .effort) ⌝ }
     ensures hearing { λ r. ⌜ r .hearing ≡ rule.heard k (sending.judge (k .service .effort) v) v ⌝ }
 {
     let e = k.service.effort;
-    if stage::drives_frame(e.progress) {
-        let t = attempt::tried(e, v);
-        let w = t.verdict;
-        let f = t.effort;
-        return Judgement {
-            verdict: w,
-            effort: f,
-            hearing: hear_own(w),
-        };
-    }
+    let r = k.reception;
+    let x = place::role_of(e.progress, r.place);
+    let t = trial(x, e, v);
+    let w = t.verdict;
+    let f = t.effort;
     Judgement {
-        verdict: Verdict::Unjudged,
-        effort: e,
-        hearing: heard(k, v),
+        role: x,
+        verdict: w,
+        effort: f,
+        hearing: heard(x, k, w, v),
     }
 }
 
@@ -224,12 +238,13 @@ pub fn sample_judged(m: &mut [u8; 256], k: Core, v: u8) -> Core
     ensures core { λ r. ⌜ r ≡ ordinary.coreAfter (now (m .entry)) k v ⌝ }
 {
     let j = judge(k, v);
+    let x = j.role;
     let w = j.verdict;
     let h = j.hearing;
     let e = j.effort;
     let mut s = k.service;
     s.effort = e;
-    let y = take_effect(m, k, w, h, s);
+    let y = take_effect(m, k, x, w, h, s);
     let report = y.report;
     let service = y.service;
     let mut t = k;

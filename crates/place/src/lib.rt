@@ -1,9 +1,12 @@
-// Where in the frame the line stands (01, Receiving).
+// Where in the frame the line stands, and what the model is in it (01, Receiving).
 ghost use mathlib.Core.Path.{_≡_};
 ghost use Rattle.rules.specs.Definitions.Reception as rule;
+ghost use Rattle.rules.specs.Definitions.Service as service_rule;
 use rules::Phase;
 use rules::Place;
+use rules::Progress;
 use rules::Reception;
+use rules::Role;
 
 // Whether a frame, start included, is under way: RXG.
 pub fn under_way(p: Place) -> bool
@@ -17,6 +20,19 @@ pub fn under_way(p: Place) -> bool
         Phase::Acknowledge => true,
         Phase::End => true,
     }
+}
+
+// Sender from its first driven slot on, receiver of any other frame under way.
+pub fn role_of(p: Progress, here: Place) -> Role
+    ensures { λ r. ⌜ r ≡ service_rule.roleOf p here ⌝ }
+{
+    if stage::drives_frame(p) {
+        return Role::Sender;
+    }
+    if under_way(here) {
+        return Role::Receiver;
+    }
+    Role::Nobody
 }
 
 // Whether the place lies between identifier and end of data.

@@ -3,6 +3,9 @@ pub mod Runs
 pub mod Resets
 pub mod Matching
 pub mod Steps
+pub mod Logic
+pub mod Judged
+pub mod Roles
 pub mod Sending
 pub mod Ranges
 pub mod Receiving

@@ -2,7 +2,6 @@
 ghost use mathlib.Core.Path.{_≡_};
 ghost use lib.ListN.{getD};
 ghost use Rattle.rules.specs.Definitions.Registers as registers_rule;
-ghost use Rattle.rules.specs.Definitions.Service as service_rule;
 ghost use Rattle.rules.specs.Definitions.Slots as rule;
 ghost use Rattle.rules.specs.Definitions.Run as run;
 ghost use Rattle.rules.specs.Definitions.Answers as answers;
@@ -11,7 +10,6 @@ use registers::Map;
 use rules::Coded;
 use rules::Core;
 use rules::CoreOutcome;
-use rules::Place;
 use rules::Progress;
 use rules::Reception;
 use rules::Refusal;
@@ -90,23 +88,10 @@ fn follows_on(m: &[u8; 256], k: Core) -> Core
 
 // ---- the level for the next slot
 
-// Sender from its first driven slot on, receiver of any other frame under way.
-fn role_of(p: Progress, here: Place) -> Role
-    ensures { λ r. ⌜ r ≡ service_rule.roleOf p here ⌝ }
-{
-    if stage::drives_frame(p) {
-        return Role::Sender;
-    }
-    if place::under_way(here) {
-        return Role::Receiver;
-    }
-    Role::Nobody
-}
-
 fn drives(p: Progress, here: Reception, frame: Coded) -> u8
     ensures { λ r. ⌜ r ≡ follow.driven p here frame ⌝ }
 {
-    let x = role_of(p, here.place);
+    let x = place::role_of(p, here.place);
     match x {
         Role::Nobody => 1,
         Role::Receiver => hearing::receiver_level(here),

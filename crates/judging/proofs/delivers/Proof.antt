@@ -8,13 +8,9 @@ unfolding delivers
 delivers-spec =
     tie.close (tie.spec
     (λ c. search needs)
+    (λ c. search needs)
     (λ c κs. tt)
     (λ c. search needs)
-    (λ c. search needs)
-    (λ c. search needs)
-    (λ c. search needs)
-    (λ c. simp (← (c .delivery-of .ensures), c .before .enum-told .given .1))
-    (λ c. simp (c .enum-told2 .given .1))
-    (λ c. simp (c .enum-told3 .given .1))
-    (λ c. simp (c .enum-told4 .given .1))
-    (λ c. simp (c .enum-told5 .given .1)))
+    (λ c. simp (c .enum-told .given .1))
+    (λ c. simp (← (c .delivery-of .ensures), c .before .enum-told2 .given .1))
+    (λ c. simp (c .enum-told3 .given .1)))

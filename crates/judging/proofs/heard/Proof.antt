@@ -1,15 +1,18 @@
-use mathlib.Core.Path.{_∙_}
-use Rattle.rules.specs.Definitions.Slots.{heard, heardAs}
-use Rattle.rules.specs.Definitions.Service.{roleOf}
+use borrow.Author.Needs.{needs}
+use Rattle.rules.specs.Definitions.Slots.{heardAs}
 use Rattle.judging.proofs.heard.Statement.{statement}
 use Rattle.judging.proofs.heard.Tie as tie
 
 pub heard-spec : {M : Type 1} → statement M
-unfolding heard heardAs roleOf
+unfolding heardAs
 heard-spec =
     tie.close (tie.spec
+    (λ c. search needs)
     (λ c κs. tt)
+    (λ c. search needs)
     (λ c κs. tt)
-    (λ c. c .hear-frame .ensures ∙ simp (c .before .before .before .before .pre, ← (c .before .before .under-way .ensures), c .before .if1 .taken))
+    (λ c. search needs)
     (λ c κs. tt)
-    (λ c. c .hear-quiet .ensures ∙ simp (c .before .before .before .before .pre, ← (c .before .before .under-way .ensures), c .before .if1 .left)))
+    (λ c. simp (← (c .hear-quiet .ensures), c .before .enum-told .given .1))
+    (λ c. simp (← (c .hear-frame .ensures), c .before .enum-told2 .given .1))
+    (λ c. simp (← (c .hear-own .ensures), c .before .enum-told3 .given .1)))

@@ -9,37 +9,39 @@ use borrow.Author.Tests.{eqb-true, eq-eqb, ltb-true, lt-ltb, le-ltb}
 use lib.Dec.{eqb, ltb}
 use lib.ListN.{getD}
 use Rattle.line.specs.Bits.{pick}
+use Rattle.line.proofs.Laws.{pick-same}
 use Rattle.rules.specs.Definitions.Setters.{withTe, withTok, withRe, withRok, withRnok, withActivity, withReport, withLine, withService}
 use Rattle.rules.specs.Definitions.Longest.{longestOf}
 use Rattle.rules.specs.Definitions.Registers.{both, hasBit, command, interruptReset, asksReset, asksIdle, asksActivation, unless, cleared, resetReport}
 use Rattle.rules.specs.Definitions.Channels.{acknowledgeAsked}
 use Rattle.rules.specs.Statements.Bits.{bitAt}
-use Rattle.rules.specs.Definitions.Reception.{underWay, isUnderWay, unsettled, takesStart}
-use Rattle.rules.specs.Definitions.Hearing.{hearIn, hearFrame, hearQuiet}
+use Rattle.rules.specs.Definitions.Reception.{underWay, isUnderWay, unsettled}
+use Rattle.rules.specs.Definitions.Hearing.{hearIn, hearFrame}
 use Rattle.rules.specs.Definitions.Delivery.{delivered, deliveryTo, deliveryOf, receiveError, reportStored, reportHeard, reportDelivered}
 use Rattle.rules.specs.Definitions.Attempt.{largest, moreAttempts, judge, atStage, betweenAttempts, isBetween, slotSpent, lostSpent, errorSpent, advance, exhausted}
-use Rattle.rules.specs.Definitions.Service.{roleOf, stopped, endingOf, settled, reportSending, reportJudged, reportEnded}
+use Rattle.rules.specs.Definitions.Service.{stopped, endingOf, settled, reportSending, reportJudged, reportEnded}
 use Rattle.rules.specs.Definitions.State.{isActive, inMode, resetCore, idleDue, slept, idleAsked, activated}
-use Rattle.rules.specs.Definitions.Slots.{heardAs, heard, delivers, serviceJudged, ending, reportAfter, memoryJudged, coreJudged, startMade, followsOn, sampleOf, judgedSlot, sampledSlot, activeSlot}
+use Rattle.rules.specs.Definitions.Slots.{roleIn, heardAs, heard, delivers, serviceJudged, ending, reportAfter, memoryJudged, coreJudged, startMade, followsOn, sampleOf, judgedSlot, sampledSlot, activeSlot}
 use Rattle.rules.specs.Definitions.Host.{resetAll, resets, sleeps, modeCommanded, flagsCleared, coreWritten, serviceAsked, stoppedCore, byteWritten, hostWritten}
 use Rattle.rules.specs.Definitions.Run.{fresh, accept, answered, restedSlot, step, next, after}
 use Rattle.rules.proofs.Ranges.Limits.{Fine}
-use Rattle.rules.proofs.Ranges.Service.{Judged, unjudged, goes, lost, failed, done, judged}
+use Rattle.rules.proofs.Logic.{both-true, clash, not-true, left}
+use Rattle.rules.proofs.Judged.{went, lost, broke, done, Tried, unjudged, judged, tried}
 use Rattle.rules.proofs.Ranges.Reach.{fine-after}
 use Rattle.rules.specs.Statements.Tally.{none}
-use Rattle.rules.proofs.Sending.Follow.{left, idle-report, choice-flags, isExhausted}
+use Rattle.rules.proofs.Sending.Follow.{idle-report, choice-flags, isExhausted}
 use Rattle.rules.specs.Statements.Sending.{accepted}
 use Rattle.rules.proofs.Steps as steps
 use Rattle.rules.proofs.Steps.{Step, step-of, refused-next, refused-not, accepted-next}
 use Rattle.rules.specs.Statements.OwnFrames.{sends, verdictIn}
-use Rattle.rules.proofs.OwnFrames.EveryRun.{attempt-judged, no-attempt, own-delivers, slot-sampled, effort-asked}
+use Rattle.rules.proofs.Roles.{role-other}
+use Rattle.rules.proofs.OwnFrames.EveryRun.{own-delivers, slot-sampled, effort-asked}
 use Rattle.rules.specs.Statements.Interrupts.{flagsOf, Sampled, Received, hearingIn, fitting, rak, Resets, by-pin, by-command, Exhausts, exhausts, LastError, last, Completes, completes, Spoils, fault, overflow, Stores, stores, Raised, Interrupts}
 use Rattle.rules.proofs.Interrupts.Line as line
 use Rattle.rules.specs.declared.Flags.{Flags}
 use Rattle.rules.specs.declared.Report.{Report}
 use Rattle.rules.specs.declared.Phase.{Phase}
 use Rattle.rules.specs.declared.Phase.the-variants.{Quiet, Start, Body, Acknowledge, End}
-use Rattle.rules.specs.declared.Line.{Line}
 use Rattle.rules.specs.declared.Reception.{Reception}
 use Rattle.rules.specs.declared.Hearing.{Hearing}
 use Rattle.rules.specs.declared.Hearing.the-variants.{Silent, Follows, Fault, Good}
@@ -107,14 +109,14 @@ asked : Reception → Bool
 asked r = acknowledgeAsked (getD (r .bytes) 1 0)
 
 flags-after : (k : Core) (w : Verdict) (h : Hearing)
-    → reportAfter k w h .flags ≡ endedFlags (ending k w) (deliveredFlags (delivers w h (k .reception)) (asked (k .reception)) (k .report .flags))
+    → reportAfter k w h .flags ≡ endedFlags (ending k w) (deliveredFlags (delivers (roleIn k) h (k .reception)) (asked (k .reception)) (k .report .flags))
 unfolding reportAfter asked
 flags-after k w h =
-    flags-ended (ending k w) (reportJudged w (reportDelivered (delivers w h (k .reception)) (reportHeard h (k .report)) (k .reception)) (serviceJudged w (k .service))) (serviceJudged w (k .service))
+    flags-ended (ending k w) (reportJudged w (reportDelivered (delivers (roleIn k) h (k .reception)) (reportHeard h (k .report)) (k .reception)) (serviceJudged w (k .service))) (serviceJudged w (k .service))
     ∙ ap (endedFlags (ending k w))
-    (flags-verdict w (reportDelivered (delivers w h (k .reception)) (reportHeard h (k .report)) (k .reception)) (serviceJudged w (k .service))
-    ∙ flags-delivered (delivers w h (k .reception)) (reportHeard h (k .report)) (k .reception)
-    ∙ ap (deliveredFlags (delivers w h (k .reception)) (acknowledgeAsked (getD (k .reception .bytes) 1 0))) (flags-heard h (k .report)))
+    (flags-verdict w (reportDelivered (delivers (roleIn k) h (k .reception)) (reportHeard h (k .report)) (k .reception)) (serviceJudged w (k .service))
+    ∙ flags-delivered (delivers (roleIn k) h (k .reception)) (reportHeard h (k .report)) (k .reception)
+    ∙ ap (deliveredFlags (delivers (roleIn k) h (k .reception)) (acknowledgeAsked (getD (k .reception .bytes) 1 0))) (flags-heard h (k .report)))
 
 flags-follow : (m : List ℕ) (k : Core) → followsOn m k .report .flags ≡ k .report .flags
 unfolding followsOn startMade
@@ -124,7 +126,7 @@ abbrev verdictOf : Controller → ℕ → Verdict
 verdictOf c v = judge (c .core .service .effort) v
 
 abbrev deliveryIn : Controller → ℕ → Delivery
-deliveryIn c v = delivers (verdictOf c v) (heard (c .core) (verdictOf c v) v) (c .core .reception)
+deliveryIn c v = delivers (roleIn (c .core)) (heard (c .core) (verdictOf c v) v) (c .core .reception)
 
 flags-sampled : (c : Controller) (v : ℕ)
     → sampledSlot c v .core .report .flags ≡ endedFlags (ending (c .core) (verdictOf c v)) (deliveredFlags (deliveryIn c v) (asked (c .core .reception)) (flagsOf c))
@@ -271,9 +273,6 @@ passed : (t : Bool) {b : Bool} → b ≡ false → pick t true b ≡ true → t 
 passed true e h = refl
 passed false e h = absurd (false≢true (sym e ∙ h))
 
-clash : {A : Type 0} {b : Bool} → b ≡ false → b ≡ true → A
-clash e h = absurd (false≢true (sym e ∙ h))
-
 unless-false : (b : Bool) (reset : Bool) → b ≡ false → unless b reset ≡ false
 unfolding unless
 unless-false b true e = refl
@@ -384,10 +383,6 @@ reset-raised c (Write a v) (by-command i p q) = go (step-of c (Write a v))
     go : Step c (Write a v) → flagsOf (next c (Write a v)) .rst ≡ true
     go (steps.refusal n h) = clash (refused-not c none (Write a v) n h) i
     go (steps.wrote h) = ap (λ (x : Controller). flagsOf x .rst) (accepted-next c none (Write a v) 0 (hostWritten c a (v % 256)) h ∙ at-once) ∙ (unfold resetAll resetCore resetReport in refl)
-
-both-true : (a b : Bool) → both a b ≡ true → (a ≡ true) × (b ≡ true)
-both-true true b e = (refl, e)
-both-true false b e = absurd (false≢true e)
 
 asks-reset : (a v : ℕ) → resets a (v % 256) ≡ true → (a ≡ 0x03) × (bitAt v 7 ≡ 1)
 unfolding resets
@@ -514,16 +509,16 @@ module _ (s : Service) (few : s .effort .counters .errors .0 ≤ s .effort .sett
   unfolding endingOf serviceJudged advance lostSpent slotSpent
   lost-not = stopped-exhausted (serviceJudged Lost s) (few-errors (serviceJudged Lost s .effort) few)
 
-  last-sound : {w : Verdict} → Judged (s .effort) w → isExhausted (endingOf w (serviceJudged w s)) ≡ true → IsLast (s .effort) w
+  last-sound : {v : ℕ} {w : Verdict} → Tried (s .effort) v w → isExhausted (endingOf w (serviceJudged w s)) ≡ true → IsLast (s .effort) w
   last-sound unjudged h =
       clash {b = isExhausted (endingOf Unjudged (serviceJudged Unjudged s))} (unfold endingOf serviceJudged advance in stopped-exhausted s (few-errors (s .effort) few)) h
-  last-sound (goes g) h =
+  last-sound (judged (went e g)) h =
       clash {b = isExhausted (endingOf Goes (serviceJudged Goes s))} (unfold endingOf serviceJudged advance atStage stopped betweenAttempts isBetween isExhausted in refl) h
-  last-sound lost h = clash lost-not h
-  last-sound (failed code g) h =
+  last-sound (judged (lost a b i)) h = clash lost-not h
+  last-sound (judged (broke code g)) h =
       let l = ltb-true (s .effort .setting) (s .effort .counters .errors .0 + 1) (sym (failed-exhausted code) ∙ sym (failed-ending code) ∙ h) in
       is-last code (omega arith)
-  last-sound done h = clash {b = isExhausted (endingOf Done (serviceJudged Done s))} (unfold endingOf isExhausted in refl) h
+  last-sound (judged done) h = clash {b = isExhausted (endingOf Done (serviceJudged Done s))} (unfold endingOf isExhausted in refl) h
 
   last-complete : (code : ℕ) → s .effort .counters .errors .0 ≡ s .effort .setting → endingOf (Failed code) (serviceJudged (Failed code) s) ≡ Exhausted
   last-complete code e =
@@ -551,21 +546,16 @@ module _ (c : Controller) (f : Fine c) where
   te-sound : (e : Event) → Exhausts c e → LastError c e
   te-sound (Slot l) (exhausts s d) =
       let v : ℕ = sampleOf c l in
-      last-named l s refl (last-sound (c .core .service) few small (judged (c .core .service .effort) v) (ended-so (c .core) (verdictOf c v) d))
+      last-named l s refl (last-sound (c .core .service) few small (tried (c .core .service .effort) v) (ended-so (c .core) (verdictOf c v) d))
 
   te-complete : (e : Event) → LastError c e → Exhausts c e
   te-complete (Slot l) (last code s p e) = exhausts s (ap (ending (c .core)) p ∙ failed-so code e)
 
 -- ---- what a frame delivers
 
-quiet-nothing : (l : Line) (v : ℕ) (r : Reception) → deliveryOf (hearQuiet l v) r ≡ deliveryOf Silent r
-unfolding hearQuiet deliveryOf deliveryTo
-quiet-nothing l v r = go (eqb v 0) (takesStart l)
-  where
-    go : (a b : Bool) → pick (r .winner .matched) (deliveryTo (pick a (pick b Follows Silent) Silent) r) Nothing ≡ pick (r .winner .matched) Nothing Nothing
-    go true true = refl
-    go true false = refl
-    go false b = refl
+silent-nothing : (r : Reception) → deliveryOf Silent r ≡ Nothing
+unfolding deliveryOf deliveryTo
+silent-nothing r = pick-same (r .winner .matched) Nothing
 
 -- by the receiver's judgement alone, where the model is not the sender
 module _ (c : Controller) (v : ℕ) (other : sends c ≡ false) where
@@ -573,31 +563,23 @@ module _ (c : Controller) (v : ℕ) (other : sends c ≡ false) where
   unfolding hearFrame hearIn
   quiet-heard e = rw e
 
-  by-phase : (p : Phase) → c .core .reception .place .phase ≡ p
-      → deliveryOf (heardAs (pick (isUnderWay p) Receiver Nobody) (c .core) Unjudged v) (c .core .reception) ≡ deliveryOf (hearFrame (c .core .reception) (longestOf (c .core)) v) (c .core .reception)
-  unfolding heardAs isUnderWay
-  by-phase Quiet e =
-      quiet-nothing (c .core .line) v (c .core .reception)
-      ∙ ap (λ (h : Hearing). deliveryOf h (c .core .reception)) (sym (quiet-heard e))
-  by-phase Start e = refl
-  by-phase Body e = refl
-  by-phase Acknowledge e = refl
-  by-phase End e = refl
-
-  heard-other : heard (c .core) Unjudged v ≡ heardAs (pick (isUnderWay (c .core .reception .place .phase)) Receiver Nobody) (c .core) Unjudged v
-  unfolding heard roleOf underWay
-  heard-other = rw other
-
-  other-delivers : delivers Unjudged (heard (c .core) Unjudged v) (c .core .reception) ≡ deliveryOf (hearFrame (c .core .reception) (longestOf (c .core)) v) (c .core .reception)
-  unfolding delivers
-  other-delivers = ap (λ (h : Hearing). deliveryOf h (c .core .reception)) heard-other ∙ by-phase (c .core .reception .place .phase) refl
+  by-phase : (p : Phase) → c .core .reception .place .phase ≡ p → (w : Verdict)
+      → delivers (pick (isUnderWay p) Receiver Nobody) (heardAs (pick (isUnderWay p) Receiver Nobody) (c .core) w v) (c .core .reception)
+      ≡ deliveryOf (hearFrame (c .core .reception) (longestOf (c .core)) v) (c .core .reception)
+  unfolding delivers heardAs isUnderWay
+  by-phase Quiet e w = sym (ap (λ (h : Hearing). deliveryOf h (c .core .reception)) (quiet-heard e) ∙ silent-nothing (c .core .reception))
+  by-phase Start e w = refl
+  by-phase Body e w = refl
+  by-phase Acknowledge e w = refl
+  by-phase End e w = refl
 
   other-delivery : deliveryIn c v ≡ deliveryOf (hearFrame (c .core .reception) (longestOf (c .core)) v) (c .core .reception)
+  unfolding heard underWay
   other-delivery =
-      ap (λ (w : Verdict). delivers w (heard (c .core) w v) (c .core .reception)) (no-attempt (c .core .service .effort) v other) ∙ other-delivers
+      rw (role-other (c .core .service .effort .progress) (c .core .reception .place) other) (by-phase (c .core .reception .place .phase) refl (verdictOf c v))
 
 own-delivery : (c : Controller) (v : ℕ) → sends c ≡ true → deliveryIn c v ≡ Nothing
-own-delivery c v d = own-delivers (attempt-judged (c .core .service .effort) v d) (heard (c .core) (verdictOf c v) v) (c .core .reception)
+own-delivery c v d = own-delivers (c .core) d (heard (c .core) (verdictOf c v) v)
 
 -- a delivery that does something is another module's frame, matched
 module _ (c : Controller) (l : ℕ) (s : Sampled c l) (t : Delivery → Bool) (idle : t Nothing ≡ false) where
@@ -686,10 +668,6 @@ stored-heard c l a q r Good e d = stores r e (go (fitting c) d) q
 
 stored-slot : (c : Controller) (l : ℕ) (a : Bool) → rak c ≡ a → Sampled c l → isStored (deliveryIn c (sampleOf c l)) ≡ true → Stores a c (Slot l)
 stored-slot c l a q s h = let t = took c l s isStored (unfold isStored in refl) h in stored-heard c l a q (t .0) (hearingIn c l) refl (t .1)
-
-not-true : (b : Bool) → not b ≡ true → b ≡ false
-not-true true e = not-at-reset e
-not-true false e = refl
 
 rok-raised : (c : Controller) (e : Event) → Stores true c e → flagsOf (next c e) .rok ≡ true
 unfolding asked isStored

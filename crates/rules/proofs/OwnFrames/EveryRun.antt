@@ -1,5 +1,5 @@
 -- Own.antt over every list of events.
---   attempt-judged == a level of an attempt is always judged        slot-cases, slot-sampled == the controller after a slot
+--   slot-cases, slot-sampled == the controller after a slot
 --   own-after, own-every == the claim for every reached controller, and for every list of events
 use Prim.Native.Nat.{ℕ, zero, suc, _+_, _-_, _*_, _/_, _%_, _≤_, _<_}
 use mathlib.Core.Bool.{Bool, true, false, false≢true}
@@ -25,19 +25,21 @@ use Rattle.rules.specs.Definitions.Delivery.{deliveryOf, memoryDelivered
 use Rattle.rules.specs.Definitions.Attempt.{atStage, inService, isServing, betweenAttempts, isBetween, waits, isWaiting, drivesFrame, isDriving, levelAt, judge, advance}
 use Rattle.rules.specs.Definitions.Service.{roleOf, resting, stopped, endingOf, settled, memoryEnded, started, abortAsked, rearAsked, aborts, hearOwn}
 use Rattle.rules.specs.Definitions.State.{isActive, serving, resetCore, idled, idleDue, slept}
-use Rattle.rules.specs.Definitions.Slots.{heardAs, heard, delivers, serviceJudged, ending, receptionJudged, memoryJudged, coreJudged, chooses, choiceMade, startMade, followsOn, drivesAs, drives, sampleOf, judgedSlot, sampledSlot, activeSlot}
+use Rattle.rules.specs.Definitions.Slots.{roleIn, heard, delivers, serviceJudged, ending, receptionJudged, memoryJudged, coreJudged, chooses, choiceMade, startMade, followsOn, drivesAs, drives, sampleOf, judgedSlot, sampledSlot, activeSlot}
 use Rattle.rules.specs.Definitions.Host.{resetAll, resets, sleeps, rearCommanded, coreWritten, serviceAsked, byteWritten, hostWritten}
 use Rattle.rules.specs.Definitions.Run.{fresh, answered, restedSlot, next, after}
 use Rattle.rules.proofs.Ranges.Limits.{Fine}
 use Rattle.rules.proofs.Sending.Frames.{level-coded}
 use Rattle.rules.specs.Statements.Tally.{Stand, away, between, opening, inside, Tally, none, isAway}
-use Rattle.rules.proofs.Sending.Join.{made, serviceIn, serviceOf, Judged, went, lost, broke, done, slot-judged}
-use Rattle.rules.proofs.Sending.Follow.{left, idle-service, follows-reception, stopped-service}
+use Rattle.rules.proofs.Sending.Join.{made, serviceIn, serviceOf}
+use Rattle.rules.proofs.Sending.Follow.{idle-service, follows-reception, stopped-service}
 use Rattle.rules.specs.Statements.Sending.{accepted, nextT}
 use Rattle.rules.proofs.Sending.Bound.{good-none}
 use Rattle.rules.proofs.Steps as steps
 use Rattle.rules.proofs.Steps.{Step, step-of, refused-next, refused-not, accepted-next}
 use Rattle.rules.proofs.Sending.Demand3.{Joined, joined-next}
+use Rattle.rules.proofs.Logic.{left}
+use Rattle.rules.proofs.Roles.{role-sender, heard-sender}
 use Rattle.rules.proofs.Ranges.Reach.{fine-fresh, fine-next}
 use Rattle.rules.specs.Statements.OwnFrames.{sends, statusAt, Ended, whole, error, Own, Left, on, gone, Between, OwnIn, Owned, OwnFrames}
 use Rattle.rules.specs.declared.Stage.{Stage}
@@ -48,40 +50,29 @@ use Rattle.rules.specs.declared.Delivery.the-variants.{Nothing}
 use Rattle.rules.specs.declared.Effort.{Effort}
 use Rattle.rules.specs.declared.Service.{Service}
 use Rattle.rules.specs.declared.Verdict.{Verdict}
-use Rattle.rules.specs.declared.Verdict.the-variants.{Unjudged, Goes}
+use Rattle.rules.specs.declared.Verdict.the-variants.{Goes}
 use Rattle.rules.specs.declared.Ending.{Ending}
 use Rattle.rules.specs.declared.Ending.the-variants.{Going, Sent, Exhausted, Aborted, Rearbitrated}
 use Rattle.rules.specs.declared.Role.{Role}
-use Rattle.rules.specs.declared.Role.the-variants.{Sender}
+use Rattle.rules.specs.declared.Role.the-variants.{Nobody, Receiver, Sender}
 use Rattle.rules.specs.declared.Core.{Core}
 use Rattle.rules.specs.declared.Controller.{Controller}
 use Rattle.rules.specs.declared.Event.{Event}
 use Rattle.rules.specs.declared.Event.the-variants.{Reset, Write, Read, Slot}
 
--- ---- a sample of an attempt is judged
-
-pub attempt-judged : (e : Effort) (v : ℕ) → drivesFrame (e .progress) ≡ true → Judged (judge e v)
-unfolding judge
-attempt-judged e v d = rw d (slot-judged (e .frame) (e .progress .at) v)
-
-pub no-attempt : (e : Effort) (v : ℕ) → drivesFrame (e .progress) ≡ false → judge e v ≡ Unjudged
-unfolding judge
-no-attempt e v d = rw d
-
 -- ---- it delivers nothing, and the end of the service marks one byte
 
-pub own-delivers : {w : Verdict} → Judged w → (h : Hearing) (r : Reception) → delivers w h r ≡ Nothing
+pub own-delivers : (k : Core) → drivesFrame (k .service .effort .progress) ≡ true → (h : Hearing) → delivers (roleIn k) h (k .reception) ≡ Nothing
 unfolding delivers
-own-delivers went h r = refl
-own-delivers lost h r = refl
-own-delivers broke h r = refl
-own-delivers done h r = refl
+own-delivers k d h = rw (role-sender (k .service .effort .progress) (k .reception .place) d)
 
-unmatched-delivers : (h : Hearing) (r : Reception) → r .winner .matched ≡ false → delivers Unjudged h r ≡ Nothing
+unmatched-delivers : (x : Role) (h : Hearing) (r : Reception) → r .winner .matched ≡ false → delivers x h r ≡ Nothing
 unfolding delivers deliveryOf
-unmatched-delivers h r e = rw e
+unmatched-delivers Nobody h r e = refl
+unmatched-delivers Receiver h r e = rw e
+unmatched-delivers Sender h r e = refl
 
-nothing-judged : (m : List ℕ) (k : Core) (w : Verdict) (h : Hearing) → delivers w h (k .reception) ≡ Nothing → memoryJudged m k w h ≡ memoryEnded (ending k w) m (k .service .channel)
+nothing-judged : (m : List ℕ) (k : Core) (w : Verdict) (h : Hearing) → delivers (roleIn k) h (k .reception) ≡ Nothing → memoryJudged m k w h ≡ memoryEnded (ending k w) m (k .service .channel)
 unfolding memoryJudged memoryDelivered
 nothing-judged m k w h e = rw e
 
@@ -154,7 +145,7 @@ slot-sampled c l i j = go (step-of c (Slot l))
 
 module _ (c : Controller) (v : ℕ) where
   -- the map after a sample that delivers nothing
-  map-after : ((h : Hearing) → delivers (judge (c .core .service .effort) v) h (c .core .reception) ≡ Nothing)
+  map-after : ((h : Hearing) → delivers (roleIn (c .core)) h (c .core .reception) ≡ Nothing)
       → sampledSlot c v .memory ≡ memoryEnded (ending (c .core) (judge (c .core .service .effort) v)) (c .memory) (c .core .service .channel)
   unfolding sampledSlot judgedSlot
   map-after e =
@@ -162,17 +153,13 @@ module _ (c : Controller) (v : ℕ) where
       nothing-judged (c .memory) (c .core) w (heard (c .core) w v) (e (heard (c .core) w v))
 
   own-map : sends c ≡ true → sampledSlot c v .memory ≡ memoryEnded (ending (c .core) (judge (c .core .service .effort) v)) (c .memory) (c .core .service .channel)
-  own-map d = map-after (λ h. own-delivers (attempt-judged (c .core .service .effort) v d) h (c .core .reception))
+  own-map d = map-after (own-delivers (c .core) d)
 
-  unmatched-map : sends c ≡ false → c .core .reception .winner .matched ≡ false
+  unmatched-map : c .core .reception .winner .matched ≡ false
       → sampledSlot c v .memory ≡ memoryEnded (ending (c .core) (judge (c .core .service .effort) v)) (c .memory) (c .core .service .channel)
-  unmatched-map d e = map-after (λ h. ap (λ (w : Verdict). delivers w h (c .core .reception)) (no-attempt (c .core .service .effort) v d) ∙ unmatched-delivers h (c .core .reception) e)
+  unmatched-map e = map-after (λ h. unmatched-delivers (roleIn (c .core)) h (c .core .reception) e)
 
 -- ---- no frame is left where it ended
-
-ended-heard : (k : Core) (w : Verdict) (v : ℕ) → drivesFrame (k .service .effort .progress) ≡ true → heard k w v ≡ hearOwn w
-unfolding heard heardAs roleOf
-ended-heard k w v d = rw d
 
 quiet-kept : (m : List ℕ) → pick (commandEnded quiet) (winnerTaken quiet m) quiet ≡ quiet
 unfolding commandEnded behind inBody isBody quiet atPlace
@@ -198,7 +185,7 @@ idle-quiet k e = go (k .activity .waiting) (serving (k .service))
 
 judged-quiet : (k : Core) (w : Verdict) (v : ℕ) (m : List ℕ) → drivesFrame (k .service .effort .progress) ≡ true → Ended w → coreJudged m k w (heard k w v) v .reception ≡ quiet
 unfolding coreJudged
-judged-quiet k w v m d x = ap (λ (h : Hearing). receptionJudged m h (k .reception) v) (ended-heard k w v d) ∙ ended-quiet x m (k .reception) v
+judged-quiet k w v m d x = ap (λ (h : Hearing). receptionJudged m h (k .reception) v) (heard-sender k w v d) ∙ ended-quiet x m (k .reception) v
 
 own-over : (c : Controller) (v : ℕ) → sends c ≡ true → Ended (judge (c .core .service .effort) v) → underWay (sampledSlot c v .core .reception .place) ≡ false
 unfolding sampledSlot judgedSlot
@@ -386,7 +373,7 @@ module _ (c : Controller) (l : ℕ) where
         over = λ i a d x. ap (λ (y : Controller). underWay (y .core .reception .place)) (slot-sampled c l i a) ∙ own-over c v d x;
         goes-on = λ i a d e. ap (λ (y : Controller). y .core .service .effort .progress .stage) (slot-sampled c l i a) ∙ sampled-on c v e;
         unmatched = λ d e a h. by-map (λ m. getD m a 0 ≡ getD (c .memory) a 0) refl
-            (λ x. ended-elsewhere x (c .memory) (c .core .service .channel) a h) (unmatched-map c v d e);
+            (λ x. ended-elsewhere x (c .memory) (c .core .service .channel) a h) (unmatched-map c v e);
       }
 
 own-in : (c : Controller) (t : Tally) → Joined c t → (e : Event) → OwnIn c e

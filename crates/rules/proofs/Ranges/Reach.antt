@@ -17,14 +17,16 @@ use Rattle.rules.specs.Definitions.Registers.{both, command, interruptRe
 use Rattle.rules.specs.Definitions.Reception.{unsettled}
 use Rattle.rules.specs.Definitions.Service.{roleOf, stopped, choose, aborts, abortAsked, rearAsked}
 use Rattle.rules.specs.Definitions.State.{inRange, isActive, isAsleep, serving, inMode, resetCore, idled, idleDue, slept, idleAsked, activated}
-use Rattle.rules.specs.Definitions.Slots.{heardAs, heard, delivers, serviceJudged, ending, reportAfter, memoryJudged, coreJudged, chooses, choiceMade, startMade, followsOn, sampleOf, judgedSlot, sampledSlot, activeSlot}
+use Rattle.rules.specs.Definitions.Slots.{roleIn, heardAs, heard, delivers, serviceJudged, ending, reportAfter, memoryJudged, coreJudged, chooses, choiceMade, startMade, followsOn, sampleOf, judgedSlot, sampledSlot, activeSlot}
 use Rattle.rules.specs.Definitions.Host.{resetAll, resets, sleeps, modeCommanded, rearCommanded, keptByte, flagsCleared, coreWritten, serviceAsked, stoppedCore, byteWritten, hostWritten, byteRead, accessRefusals, writeRefusals, readRefusals}
 use Rattle.rules.specs.Definitions.Answers.{number}
 use Rattle.rules.specs.Definitions.Run.{fresh, refuse, accept, unlessRefused, pinReset, hostWrite, hostRead, answered, restedSlot, slot, step, next, after}
 use Rattle.rules.proofs.Ranges.Limits.{RetriesLimits, ReportLimits, Fine, limits-in-range}
 use Rattle.rules.proofs.Ranges.Bytes.{set-below, zeros-below, reset-below}
 use Rattle.rules.proofs.Ranges.Reception.{Received, quiet-received, judged-received, line-small, Heard, frame-heard, quiet-heard, heard-report, delivered-report, delivered-below}
-use Rattle.rules.proofs.Ranges.Service.{Served, resting-served, Judged, judged, own-heard, Spent, served-spent, judged-spent, stopped-ends, ending-ends, settled-served, ended-below, sending-report, judged-report, ended-report, choose-served, started-served, abort-served, rear-served}
+use Rattle.rules.proofs.Logic.{both-true}
+use Rattle.rules.proofs.Judged.{Tried, tried}
+use Rattle.rules.proofs.Ranges.Service.{Served, resting-served, own-heard, Spent, served-spent, judged-spent, stopped-ends, ending-ends, settled-served, ended-below, sending-report, judged-report, ended-report, choose-served, started-served, abort-served, rear-served}
 use Rattle.rules.proofs.Steps.{Call, refused, taken, call-of}
 use Rattle.rules.specs.declared.Report.{Report}
 use Rattle.rules.specs.declared.Service.{Service}
@@ -71,31 +73,31 @@ fine-core c f =
 
 -- ---- a sample, with its effects
 
-as-heard : (x : Role) (k : Core) {w : Verdict} (v : ℕ) → Judged (k .service .effort) w → Heard (heardAs x k w v)
+as-heard : (x : Role) (k : Core) {w : Verdict} (v : ℕ) → Tried (k .service .effort) v w → Heard (heardAs x k w v)
 unfolding heardAs
 as-heard Nobody k v j = quiet-heard (k .line) v
 as-heard Receiver k v j = frame-heard (k .reception) (longestOf k) v
-as-heard Sender k v j = own-heard (k .service .effort) j
+as-heard Sender k v j = own-heard j
 
-is-heard : (k : Core) {w : Verdict} (v : ℕ) → Judged (k .service .effort) w → Heard (heard k w v)
+is-heard : (k : Core) {w : Verdict} (v : ℕ) → Tried (k .service .effort) v w → Heard (heard k w v)
 unfolding heard
 is-heard k v j = as-heard (roleOf (k .service .effort .progress) (k .reception .place)) k v j
 
-after-report : (k : Core) (w : Verdict) {h : Hearing} → FineCore k → Judged (k .service .effort) w → Heard h → ReportLimits (reportAfter k w h)
+after-report : (k : Core) (w : Verdict) {h : Hearing} {v : ℕ} → FineCore k → Tried (k .service .effort) v w → Heard h → ReportLimits (reportAfter k w h)
 unfolding reportAfter
 after-report k w {h} f j i =
     let s : Spent (serviceJudged w (k .service)) = judged-spent (k .service) j (f .service) in
     ended-report (ending k w) _ (serviceJudged w (k .service))
     (judged-report w _ (serviceJudged w (k .service))
-    (delivered-report (delivers w h (k .reception)) _ (k .reception) (heard-report i (k .report) (f .report)) (f .reception)) s)
+    (delivered-report (delivers (roleIn k) h (k .reception)) _ (k .reception) (heard-report i (k .report) (f .report)) (f .reception)) s)
     s
 
 judged-below : {m : List ℕ} → Below 256 m → (k : Core) (w : Verdict) (h : Hearing) → FineCore k → Below 256 (memoryJudged m k w h)
 unfolding memoryJudged
 judged-below b k w h f =
-    ended-below (ending k w) (delivered-below (delivers w h (k .reception)) b (k .reception) (f .reception)) (k .service .channel)
+    ended-below (ending k w) (delivered-below (delivers (roleIn k) h (k .reception)) b (k .reception) (f .reception)) (k .service .channel)
 
-judged-kept : {m : List ℕ} → Below 256 m → (k : Core) (w : Verdict) {h : Hearing} (v : ℕ) → FineCore k → Judged (k .service .effort) w → Heard h
+judged-kept : {m : List ℕ} → Below 256 m → (k : Core) (w : Verdict) {h : Hearing} (v : ℕ) → FineCore k → Tried (k .service .effort) v w → Heard h
     → FineCore (coreJudged m k w h v)
 unfolding coreJudged ending
 judged-kept b k w {h} v f j i =
@@ -147,7 +149,7 @@ follows-kept {m} b k f = start-kept m _ (choice-kept b _ (idle-kept k f))
 
 -- ---- the slot
 
-judged-fine : (c : Controller) (w : Verdict) {h : Hearing} (v : ℕ) → Fine c → Judged (c .core .service .effort) w → Heard h → Fine (judgedSlot c w h v)
+judged-fine : (c : Controller) (w : Verdict) {h : Hearing} (v : ℕ) → Fine c → Tried (c .core .service .effort) v w → Heard h → Fine (judgedSlot c w h v)
 unfolding judgedSlot
 judged-fine c w {h} v f j i =
     let k = fine-core c f in
@@ -156,7 +158,7 @@ judged-fine c w {h} v f j i =
 
 sampled-fine : (c : Controller) (v : ℕ) → Fine c → Fine (sampledSlot c v)
 unfolding sampledSlot
-sampled-fine c v f = let j = judged (c .core .service .effort) v in judged-fine c _ v f j (is-heard (c .core) v j)
+sampled-fine c v f = let j = tried (c .core .service .effort) v in judged-fine c _ v f j (is-heard (c .core) v j)
 
 active-fine : (c : Controller) (levels : ℕ) → Fine c → Fine (activeSlot c levels)
 unfolding activeSlot
@@ -273,10 +275,6 @@ never-six es = limits-in-range (after fresh es .core) (fine-after es .limits)
 
 abbrev Other : ℕ → Type 0
 Other n = n ≡ 6 → ⊥
-
-both-true : (a b : Bool) → both a b ≡ true → (a ≡ true) × (b ≡ true)
-both-true true b e = (refl, e)
-both-true false b e = absurd (false≢true e)
 
 -- no refusal of a list has number 6
 abbrev sixless : List (Bool × Refusal) → Bool

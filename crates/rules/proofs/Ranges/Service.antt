@@ -1,5 +1,5 @@
 -- What a sample, the choice, the start, an abort and REAR do to a fine service, and the service to the registers and the memory map.
---   Served == the service between events        Judged == what a sample may be for the attempt        Spent == the service once the attempt has spent the slot
+--   Served == the service between events        Spent == the service once the attempt has spent the slot
 --   Ends == how it may end: it goes on only with errors at most R
 use Prim.Native.Nat.{ℕ, _+_, _-_, _%_, _≤_, _<_}
 use mathlib.Core.Bool.{Bool, false, false≢true}
@@ -20,8 +20,9 @@ use Rattle.rules.specs.Definitions.Longest.{capacity}
 use Rattle.rules.specs.Definitions.Registers.{both, CV, ACKE, FCSE}
 use Rattle.rules.specs.Definitions.Mailbox.{coded}
 use Rattle.rules.specs.Definitions.Reception.{free, underWay, startEnded}
-use Rattle.rules.specs.Definitions.Attempt.{noCounts, atStage, isBetween, betweenAttempts, waits, drivesFrame, levelAt, due, overdriven, violated, recessiveLost, difference, judgeSlot, judge, slotSpent, lostSpent, errorSpent, advance, exhausted}
+use Rattle.rules.specs.Definitions.Attempt.{noCounts, atStage, isBetween, betweenAttempts, waits, drivesFrame, levelAt, due, judgeSlot, judge, slotSpent, lostSpent, errorSpent, advance, exhausted}
 use Rattle.rules.specs.Definitions.Service.{resting, stopped, endingOf, settled, memoryEnded, retriesOf, reportSending, reportJudged, reportEnded, chosen, choiceOf, choose, opened, started, abortAsked, rearAsked, hearOwn}
+use Rattle.rules.proofs.Judged.{went, lost, broke, done, Tried, unjudged, judged}
 use Rattle.rules.proofs.Ranges.Limits.{ServiceLimits, RetriesLimits, ReportLimits}
 use Rattle.rules.proofs.Ranges.Bytes.{fits-sent, setting-small, cher-below, chtx-below, Named, nothing, channel, ready-named}
 use Rattle.rules.proofs.Ranges.Reception.{Heard, silent, follows, fault, good}
@@ -49,69 +50,14 @@ resting-served =
       retries = omega arith;
     }
 
--- ---- the sender's judgement: an attempt goes on only inside its frame, and the code of a failure fits the register
-
-pub data Judged (e : Effort) : Verdict → Type 0 where
-  unjudged : Judged e Unjudged
-  goes : e .progress .at + 1 < size (e .frame .n) → Judged e Goes
-  lost : Judged e Lost
-  failed : (code : ℕ) → code ≤ 32 → Judged e (Failed code)
-  done : Judged e Done
-
-violated-judged : (e : Effort) (p : Part) → Judged e (violated p)
-unfolding violated
-violated-judged e Start = failed CV (omega arith)
-violated-judged e Identifier = failed CV (omega arith)
-violated-judged e Command = failed CV (omega arith)
-violated-judged e Data = failed CV (omega arith)
-violated-judged e Check = failed CV (omega arith)
-violated-judged e EndOfData = failed CV (omega arith)
-violated-judged e Acknowledge = failed ACKE (omega arith)
-violated-judged e EndOfFrame = failed CV (omega arith)
-violated-judged e After = failed CV (omega arith)
-
-overdriven-judged : (e : Effort) (p : Part) → Judged e (overdriven p)
-unfolding overdriven
-overdriven-judged e Start = failed CV (omega arith)
-overdriven-judged e Identifier = lost
-overdriven-judged e Command = lost
-overdriven-judged e Data = lost
-overdriven-judged e Check = failed FCSE (omega arith)
-overdriven-judged e EndOfData = failed CV (omega arith)
-overdriven-judged e Acknowledge = failed ACKE (omega arith)
-overdriven-judged e EndOfFrame = failed CV (omega arith)
-overdriven-judged e After = failed CV (omega arith)
-
-recessive-judged : (e : Effort) (h : Half) (p : Part) → Judged e (recessiveLost h p)
-unfolding recessiveLost
-recessive-judged e Plain p = overdriven-judged e p
-recessive-judged e First p = overdriven-judged e p
-recessive-judged e Second p = violated-judged e p
-
-difference-judged : (e : Effort) (n k d : ℕ) → Judged e (difference n k d)
-unfolding difference
-difference-judged e n k d =
-    picked (Judged e) (eqb d 1) (recessiveLost (halfOf n k) (partOf n k)) (violated (partOf n k)) (λ h. recessive-judged e (halfOf n k) (partOf n k)) (λ h. violated-judged e (partOf n k))
-
-slot-judged : (e : Effort) (v : ℕ) → Judged e (judgeSlot (e .frame) (e .progress .at) v)
-unfolding judgeSlot
-slot-judged e v =
-    picked (Judged e) (eqb v (due (e .frame) (e .progress .at))) _ _
-    (λ h. picked (Judged e) (ltb (e .progress .at + 1) (size (e .frame .n))) Goes Done (λ i. goes (ltb-true _ _ i)) (λ i. done))
-    (λ h. difference-judged e (e .frame .n) (e .progress .at) (levelAt (e .frame) (e .progress .at)))
-
-pub judged : (e : Effort) (v : ℕ) → Judged e (judge e v)
-unfolding judge
-judged e v = picked (Judged e) (drivesFrame (e .progress)) (judgeSlot (e .frame) (e .progress .at) v) Unjudged (λ h. slot-judged e v) (λ h. unjudged)
-
 -- the model's own frame, for the line
-pub own-heard : (e : Effort) {w : Verdict} → Judged e w → Heard (hearOwn w)
+pub own-heard : {e : Effort} {v : ℕ} {w : Verdict} → Tried e v w → Heard (hearOwn w)
 unfolding hearOwn
-own-heard e unjudged = silent
-own-heard e (goes h) = follows
-own-heard e lost = follows
-own-heard e (failed code h) = fault code h
-own-heard e done = good
+own-heard unjudged = silent
+own-heard (judged (went e h)) = follows
+own-heard (judged (lost a b i)) = follows
+own-heard (judged (broke code h)) = fault code h
+own-heard (judged done) = good
 
 -- ---- the slot is spent: more errors than R stand only between attempts, where they end the service
 
@@ -127,19 +73,19 @@ served-spent s f =
     let l = f .limits in
     record { channel = l .channel; n = l .effort .n; at = l .effort .at; setting = l .effort .setting; over = λ e. f .retries }
 
-pub judged-spent : {w : Verdict} (s : Service) → Judged (s .effort) w → Served s → Spent (serviceJudged w s)
+pub judged-spent : {v : ℕ} {w : Verdict} (s : Service) → Tried (s .effort) v w → Served s → Spent (serviceJudged w s)
 unfolding serviceJudged advance slotSpent lostSpent errorSpent atStage size betweenAttempts isBetween
 judged-spent s unjudged f = served-spent s f
-judged-spent s (goes h) f =
+judged-spent s (judged (went e h)) f =
     let l = f .limits in
     record { channel = l .channel; n = l .effort .n; at = omega arith; setting = l .effort .setting; over = λ e. f .retries }
-judged-spent s lost f =
+judged-spent s (judged (lost a b i)) f =
     let l = f .limits in
     record { channel = l .channel; n = l .effort .n; at = omega arith; setting = l .effort .setting; over = λ e. f .retries }
-judged-spent s (failed code h) f =
+judged-spent s (judged (broke code h)) f =
     let l = f .limits in
     record { channel = l .channel; n = l .effort .n; at = omega arith; setting = l .effort .setting; over = λ e. absurd (false≢true (sym e)) }
-judged-spent s done f =
+judged-spent s (judged done) f =
     let l = f .limits in
     record { channel = l .channel; n = l .effort .n; at = omega arith; setting = l .effort .setting; over = λ e. f .retries }
 

@@ -23,13 +23,13 @@ use Rattle.rules.proofs.Receiving.Invariant.{InBody, InAcknowledge, Inv
 use Rattle.rules.proofs.Receiving.InvariantFrames.{start-long, acknowledge-long, end-long, closing, closing-length, body-opens, acknowledge-same, end-same}
 use Rattle.rules.proofs.Receiving.InvariantLaws.{invariant-silent, invariant-header, invariant-good, invariant-last, invariant-fault, invariant-acknowledges}
 use Rattle.rules.specs.Definitions.Delivery.{deliveryTo, delivered, deliveryOf, memoryStored, memoryDelivered, reportHeard, reportDelivered, reportStored, receiveError}
-use Rattle.rules.specs.Definitions.Attempt.{drivesFrame, judgeSlot, judge, advance}
-use Rattle.rules.specs.Definitions.Service.{roleOf, stopped, endingOf, memoryEnded, reportJudged, reportEnded, reportSending, choose}
+use Rattle.rules.specs.Definitions.Attempt.{drivesFrame, judge, advance}
+use Rattle.rules.specs.Definitions.Service.{stopped, endingOf, memoryEnded, reportJudged, reportEnded, reportSending, choose}
 use Rattle.rules.specs.Definitions.State.{isActive, inMode, serving, resetCore, idled, idleDue}
 use Rattle.rules.specs.Definitions.Longest.{longestOf}
 use Rattle.rules.specs.Definitions.Registers.{BOV}
 use Rattle.rules.specs.declared.Report.{Report}
-use Rattle.rules.specs.Definitions.Slots.{heardAs, heard, serviceJudged, receptionJudged, delivers, ending, reportAfter, memoryJudged, coreJudged, chooses, choiceMade, startMade, followsOn, drivesAs, drives, sampleOf, judgedSlot, sampledSlot, activeSlot}
+use Rattle.rules.specs.Definitions.Slots.{roleIn, heardAs, heard, serviceJudged, receptionJudged, delivers, ending, reportAfter, memoryJudged, coreJudged, chooses, choiceMade, startMade, followsOn, drivesAs, drives, sampleOf, judgedSlot, sampledSlot, activeSlot}
 use Rattle.rules.specs.Definitions.Host.{resetAll}
 use Rattle.rules.specs.Definitions.Run.{fresh, answered, next}
 use Rattle.rules.specs.Statements.Tally.{Tally, none}
@@ -42,12 +42,11 @@ use Rattle.rules.proofs.Ranges.Reach.{fine-fresh, fine-next}
 use Rattle.rules.proofs.Sending.Bound.{good-none}
 use Rattle.rules.proofs.Sending.Demand3.{Joined, joined-next}
 use Rattle.rules.specs.Statements.Receiving.{Log, noLog, storedFrame, received, errorAfter, logNext, taker, hears, Taken, Delivers, role, Heeds, DeliversIn, Owing, Acknowledges, Delivered}
-use Rattle.rules.proofs.Receiving.OwnAttempt.{Judged, done, failed, goes, lost, slot-judged}
-use Rattle.rules.proofs.Receiving.Log.{At, Following, apart, driving, heard-receiver, judge-apart, judge-driving, none-wins, receiving, starting}
+use Rattle.rules.proofs.Roles.{receiver-is, judge-apart, heard-receiver}
+use Rattle.rules.proofs.Receiving.Log.{At, Following, apart, driving, none-wins, receiving, starting}
 use Rattle.rules.proofs.Receiving.Log as at
 use Rattle.rules.proofs.Receiving.LogSteps.{Logs, apart-stands, next-logs, sample-small}
 use Rattle.rules.specs.declared.Winner.{Winner}
-use Rattle.rules.specs.declared.Line.{Line}
 use Rattle.rules.specs.declared.Phase.{Phase}
 use Rattle.rules.specs.declared.Phase.the-variants.{Quiet, Start, Body, Acknowledge, End}
 use Rattle.rules.specs.declared.Reception.{Reception}
@@ -55,7 +54,6 @@ use Rattle.rules.specs.declared.Hearing.{Hearing}
 use Rattle.rules.specs.declared.Hearing.the-variants as hearing
 use Rattle.rules.specs.declared.Delivery.{Delivery}
 use Rattle.rules.specs.declared.Delivery.the-variants as effect
-use Rattle.rules.specs.declared.Coded.{Coded}
 use Rattle.rules.specs.declared.Effort.{Effort}
 use Rattle.rules.specs.declared.Verdict.{Verdict}
 use Rattle.rules.specs.declared.Verdict.the-variants.{Unjudged}
@@ -70,20 +68,6 @@ use Rattle.rules.specs.declared.Event.{Event}
 use Rattle.rules.specs.declared.Event.the-variants.{Reset, Write, Read, Slot}
 
 -- ---- another module's frame
-
-unfoldable isReceiver : Role → Bool
-isReceiver Nobody = false
-isReceiver Receiver = true
-isReceiver Sender = false
-
-receiver-apart : (d u : Bool) → pick d Sender (pick u Receiver Nobody) ≡ Receiver → (d ≡ false) × (u ≡ true)
-receiver-apart true u e = absurd (false≢true (unfold isReceiver in ap isReceiver e))
-receiver-apart false true e = (refl, refl)
-receiver-apart false false e = absurd (false≢true (unfold isReceiver in ap isReceiver e))
-
-receiver-is : (c : Controller) → role c ≡ Receiver → (drivesFrame (c .core .service .effort .progress) ≡ false) × (underWay (c .core .reception .place) ≡ true)
-unfolding roleOf
-receiver-is c e = receiver-apart (drivesFrame (c .core .service .effort .progress)) (underWay (c .core .reception .place)) e
 
 following-at : {e : Effort} {r : Reception} {l : Log} → At e r l → drivesFrame (e .progress) ≡ false → underWay (r .place) ≡ true → Following r l
 following-at (apart d u) a b = absurd (false≢true (sym u ∙ b))
@@ -106,9 +90,9 @@ module _ (r : Reception) (l : Log) (w : Following r l) where
 
 -- ---- the memory map
 
-unjudged-memory : (m : List ℕ) (k : Core) (h : Hearing) → stopped (k .service) ≡ Going → memoryJudged m k Unjudged h ≡ memoryDelivered (deliveryOf h (k .reception)) m (k .reception)
+unjudged-memory : (m : List ℕ) (k : Core) (h : Hearing) → roleIn k ≡ Receiver → stopped (k .service) ≡ Going → memoryJudged m k Unjudged h ≡ memoryDelivered (deliveryOf h (k .reception)) m (k .reception)
 unfolding memoryJudged ending endingOf serviceJudged advance delivers
-unjudged-memory m k h g = rw g (unfold memoryEnded in refl)
+unjudged-memory m k h q g = rw (q, g) (unfold memoryEnded in refl)
 
 -- what a good frame does to it
 good-memory : (m : List ℕ) (r : Reception) {s : List ℕ} (w : Whole capacity r s) → memoryDelivered (deliveryOf hearing.Good r) m r ≡ received m (r .winner) (w .frame)
@@ -131,9 +115,9 @@ good-error x r w = rw (w .count-is) (go (r .winner .matched) (leb (length (w .fr
     go true false = unfold reportDelivered receiveError in refl
     go false b = unfold reportDelivered in refl
 
-unjudged-error : (k : Core) (h : Hearing) → stopped (k .service) ≡ Going → reportAfter k Unjudged h .error ≡ reportDelivered (deliveryOf h (k .reception)) (reportHeard h (k .report)) (k .reception) .error
+unjudged-error : (k : Core) (h : Hearing) → roleIn k ≡ Receiver → stopped (k .service) ≡ Going → reportAfter k Unjudged h .error ≡ reportDelivered (deliveryOf h (k .reception)) (reportHeard h (k .report)) (k .reception) .error
 unfolding reportAfter ending endingOf serviceJudged advance delivers reportJudged
-unjudged-error k h g = rw g (unfold reportEnded in refl)
+unjudged-error k h q g = rw (q, g) (unfold reportEnded in refl)
 
 -- idle, choice and start leave 0x07
 idle-error : (k : Core) → idleDue k .report .error ≡ k .report .error
@@ -244,53 +228,16 @@ ended-mailbox Exhausted m c a h = chtx-mailbox (markedCher m c) c a h ∙ cher-m
 ended-mailbox Aborted m c a h = chtx-mailbox m c a h
 ended-mailbox Rearbitrated m c a h = refl
 
-own-delivers : {x : Coded} {k v : ℕ} {w : Verdict} → Judged x k v w → (h : Hearing) (r : Reception) → delivers w h r ≡ effect.Nothing
-unfolding delivers
-own-delivers (goes e) h r = refl
-own-delivers (lost a b i) h r = refl
-own-delivers failed h r = refl
-own-delivers done h r = refl
-
-unfoldable isGood : Hearing → Bool
-isGood hearing.Silent = false
-isGood hearing.Follows = false
-isGood (hearing.Fault code) = false
-isGood hearing.Good = true
-
-quiet-not-good : (line : Line) (v : ℕ) → isGood (hearQuiet line v) ≡ false
-unfolding hearQuiet isGood
-quiet-not-good line v =
-    picked P (eqb v 0) _ hearing.Silent (λ e. picked P (takesStart line) hearing.Follows hearing.Silent (λ d. refl) (λ d. refl)) (λ e. refl)
+-- a sample that is none of another module's frame leaves the mailboxes
+other-mailbox : (m : List ℕ) (k : Core) (w : Verdict) (h : Hearing) → (roleIn k ≡ Receiver → ⊥) → (a : ℕ) → 128 ≤ a → getD (memoryJudged m k w h) a 0 ≡ getD m a 0
+unfolding memoryJudged
+other-mailbox m k w h n a i =
+    ended-mailbox (ending k w) (memoryDelivered (delivers (roleIn k) h (k .reception)) m (k .reception)) (k .service .channel) a i ∙ go (roleIn k) refl
   where
-    P : Hearing → Type 0
-    P h = isGood h ≡ false
-
-not-good : (h : Hearing) → isGood h ≡ false → h ≡ hearing.Good → ⊥
-not-good h n e = absurd (false≢true (sym n ∙ ap isGood e ∙ (unfold isGood in refl)))
-
-sender-drives : (d u : Bool) → pick d Sender (pick u Receiver Nobody) ≡ Sender → d ≡ true
-sender-drives true u e = refl
-sender-drives false true e = absurd (false≢true (sym (unfold isReceiver in ap isReceiver e)))
-sender-drives false false e = absurd (let z : _≡_ {A = ℕ} 0 1 = cc in omega arith)
-
-nobody-apart : (d u : Bool) → pick d Sender (pick u Receiver Nobody) ≡ Nobody → d ≡ false
-nobody-apart true u e = absurd (let z : _≡_ {A = ℕ} 0 1 = cc in omega arith)
-nobody-apart false u e = refl
-
-module _ (m : List ℕ) (k : Core) (v a : ℕ) (i : 128 ≤ a) where
-  judged-mailbox : (w : Verdict) (h : Hearing) → getD (memoryDelivered (delivers w h (k .reception)) m (k .reception)) a 0 ≡ getD m a 0 → getD (memoryJudged m k w h) a 0 ≡ getD m a 0
-  unfolding memoryJudged
-  judged-mailbox w h e = ended-mailbox (ending k w) (memoryDelivered (delivers w h (k .reception)) m (k .reception)) (k .service .channel) a i ∙ e
-
-  sender-mailbox : (h : Hearing) → drivesFrame (k .service .effort .progress) ≡ true → getD (memoryJudged m k (judge (k .service .effort) v) h) a 0 ≡ getD m a 0
-  sender-mailbox h d =
-      rw (judge-driving (k .service .effort) v d)
-      (judged-mailbox (judgeSlot (k .service .effort .frame) (k .service .effort .progress .at) v) h
-      (rw (own-delivers (slot-judged (k .service .effort .frame) (k .service .effort .progress .at) v) h (k .reception)) (unfold memoryDelivered in refl)))
-
-  nobody-mailbox : (h : Hearing) → drivesFrame (k .service .effort .progress) ≡ false → isGood h ≡ false → getD (memoryJudged m k (judge (k .service .effort) v) h) a 0 ≡ getD m a 0
-  nobody-mailbox h d g =
-      rw (judge-apart (k .service .effort) v d) (judged-mailbox Unjudged h (unfold delivers in early-memory m (k .reception) h (not-good h g) a i))
+    go : (x : Role) → roleIn k ≡ x → getD (memoryDelivered (delivers x h (k .reception)) m (k .reception)) a 0 ≡ getD m a 0
+    go Nobody e = unfold delivers memoryDelivered in refl
+    go Receiver e = absurd (n e)
+    go Sender e = unfold delivers memoryDelivered in refl
 
 module _ (c : Controller) (t : Tally) (levels : ℕ) (y : accepted c (Slot levels) ≡ true) (a : isActive (c .core .activity .mode) ≡ true) where
   slot-next : next c (Slot levels) ≡ sampledSlot c (sampleOf c levels)
@@ -312,16 +259,9 @@ module _ (c : Controller) (t : Tally) (levels : ℕ) (y : accepted c (Slot level
       ∙ follows-error (memoryJudged (c .memory) (c .core) (judge (c .core .service .effort) (sampleOf c levels)) (hears c levels)) _
 
   heeds-mailbox : (role c ≡ Receiver → ⊥) → (b : ℕ) → 128 ≤ b → getD (next c (Slot levels) .memory) b 0 ≡ getD (c .memory) b 0
-  heeds-mailbox n b i = ap (λ (x : List ℕ). getD x b 0) slot-memory ∙ go (role c) refl
-    where
-      quiet-hears : role c ≡ Nobody → isGood (hears c levels) ≡ false
-      quiet-hears e = unfold heard in rw e (unfold heardAs in quiet-not-good (c .core .line) (sampleOf c levels))
-
-      go : (x : Role) → role c ≡ x
-          → getD (memoryJudged (c .memory) (c .core) (judge (c .core .service .effort) (sampleOf c levels)) (hears c levels)) b 0 ≡ getD (c .memory) b 0
-      go Nobody e = nobody-mailbox (c .memory) (c .core) (sampleOf c levels) b i (hears c levels) (nobody-apart (drivesFrame (c .core .service .effort .progress)) (underWay (c .core .reception .place)) (unfold roleOf in e)) (quiet-hears e)
-      go Receiver e = absurd (n e)
-      go Sender e = sender-mailbox (c .memory) (c .core) (sampleOf c levels) b i (hears c levels) (sender-drives (drivesFrame (c .core .service .effort .progress)) (underWay (c .core .reception .place)) (unfold roleOf in e))
+  heeds-mailbox n b i =
+      ap (λ (x : List ℕ). getD x b 0) slot-memory
+      ∙ other-mailbox (c .memory) (c .core) (judge (c .core .service .effort) (sampleOf c levels)) (hears c levels) n b i
 
   heeds : Heeds c levels
   heeds = record { begins = begins-frame c levels; kept = heeds-kept; mailbox = heeds-mailbox }
@@ -333,27 +273,27 @@ valid-as {w} {x} {f} e v = subst (λ (z : Winner). Valid z f) (sym e) v
 
 module _ (c : Controller) (t : Tally) (l : Log) (i : Logs c l) (levels : ℕ) (y : accepted c (Slot levels) ≡ true) (a : isActive (c .core .activity .mode) ≡ true) (q : role c ≡ Receiver) where
   follows : Following (c .core .reception) l
-  follows = let z = receiver-is c q in following-at (i .stands .stage) (z .0) (z .1)
+  follows = let z = receiver-is (c .core .service .effort .progress) (c .core .reception .place) q in following-at (i .stands .stage) (z .0) (z .1)
 
   invariant : Invariant capacity (c .core .reception) (l .samples)
   invariant = follows .invariant
 
   hears-is : hears c levels ≡ hearFrame (c .core .reception) 30 (sampleOf c levels)
-  hears-is = let z = receiver-is c q in heard-receiver (c .core) _ (sampleOf c levels) (z .0) (z .1)
+  hears-is = let z = receiver-is (c .core .service .effort .progress) (c .core .reception .place) q in heard-receiver (c .core) _ (sampleOf c levels) (z .0) (z .1)
 
   next-memory : next c (Slot levels) .memory ≡ memoryDelivered (deliveryOf (hears c levels) (c .core .reception)) (c .memory) (c .core .reception)
   next-memory =
-      let z = receiver-is c q in
+      let z = receiver-is (c .core .service .effort .progress) (c .core .reception .place) q in
       slot-memory c t levels y a
       ∙ ap (λ (w : Verdict). memoryJudged (c .memory) (c .core) w (hears c levels)) (judge-apart (c .core .service .effort) (sampleOf c levels) (z .0))
-      ∙ unjudged-memory (c .memory) (c .core) (hears c levels) (i .stands .going)
+      ∙ unjudged-memory (c .memory) (c .core) (hears c levels) q (i .stands .going)
 
   next-error : next c (Slot levels) .core .report .error ≡ reportDelivered (deliveryOf (hears c levels) (c .core .reception)) (reportHeard (hears c levels) (c .core .report)) (c .core .reception) .error
   next-error =
-      let z = receiver-is c q in
+      let z = receiver-is (c .core .service .effort .progress) (c .core .reception .place) q in
       slot-error c t levels y a
       ∙ ap (λ (w : Verdict). reportAfter (c .core) w (hears c levels) .error) (judge-apart (c .core .service .effort) (sampleOf c levels) (z .0))
-      ∙ unjudged-error (c .core) (hears c levels) (i .stands .going)
+      ∙ unjudged-error (c .core) (hears c levels) q (i .stands .going)
 
   taken : hears c levels ≡ hearing.Good → Taken c l levels
   taken h =
@@ -428,7 +368,7 @@ invariant-owed {longest} r s t f g o rest n e = owed-in longest r s f g o rest n
 module _ (c : Controller) (l : Log) (i : Logs c l) where
   owing : role c ≡ Receiver → receiverLevel (c .core .reception) ≡ 0 → Owing (longestOf (c .core)) l
   owing q h =
-      let z = receiver-is c q in
+      let z = receiver-is (c .core .service .effort .progress) (c .core .reception .place) q in
       let f : Following (c .core .reception) l = following-at (i .stands .stage) (z .0) (z .1) in
       let o = invariant-acknowledges (c .core .reception) (l .samples) (f .invariant) h in
       let n : c .core .reception .winner ≡ taker l (o .frame) = taker-is (c .core .reception) l f (o .frame) (o .high-is) (o .low-is) in
@@ -453,7 +393,7 @@ module _ (c : Controller) (l : Log) (i : Logs c l) where
   due-driven : role c ≡ Receiver → (f : Frame) → Fits 30 f → owes (taker l f) f ≡ true → (rest : List ℕ) → length rest ≡ 9 → l .samples ++ rest ≡ slots f → drives (c .core) ≡ 0
   unfolding drives drivesAs
   due-driven q f g o rest n e =
-      let z = receiver-is c q in
+      let z = receiver-is (c .core .service .effort .progress) (c .core .reception .place) q in
       let w : Following (c .core .reception) l = following-at (i .stands .stage) (z .0) (z .1) in
       let k : c .core .reception .winner ≡ taker l f = taker-opens (c .core .reception) l w f g rest e in
       rw q (invariant-owed (c .core .reception) (l .samples) (w .invariant) f g (ap (λ (x : Winner). owes x f) k ∙ o) rest n e)

@@ -22,7 +22,7 @@ use Rattle.rules.specs.Definitions.Reception.{begun, quiet, atPlace, und
 use Rattle.rules.specs.Definitions.Longest.{capacity, mostNibbles}
 use Rattle.rules.specs.Definitions.Hearing.{whole, replyRequest, checkReceived, checkDue, hearEndOfData, hearSecondHalf, hearBody, hearStart, fits, acknowledges, acknowledgeWrong, hearAcknowledge, hearEnd, hearIn, hearFrame, acknowledgeLevel, receiverIn, receiverLevel}
 use Rattle.rules.specs.Statements.Valid.{Valid, high, low}
-use Rattle.rules.proofs.Sending.Follow.{left}
+use Rattle.rules.proofs.Logic.{left}
 use Rattle.rules.proofs.Receiving.Invariant.{frameHeld, InAcknowledge, InEnd, InvariantIn, Invariant, Whole, Owed}
 use Rattle.rules.proofs.Receiving.Held.{held-high, held-low, held-length, held-fits}
 use Rattle.rules.proofs.Receiving.InvariantSteps.{fault-follows, fault-good, good-follows, step-invariant, owes-held, held-request}

@@ -19,10 +19,12 @@ use Rattle.rules.specs.Definitions.Hearing.{receptionAfter, hearFrame, h
 use Rattle.rules.proofs.Receiving.Invariant.{Invariant}
 use Rattle.rules.proofs.Receiving.InvariantLaws.{invariant-begun, invariant-under-way, invariant-winner, invariant-command, invariant-named, invariant-kept, invariant-step, invariant-silent}
 use Rattle.rules.specs.Definitions.Attempt.{atStage, betweenAttempts, isBetween, drivesFrame, isDriving, levelAt, due, judgeSlot, judge, advance}
-use Rattle.rules.specs.Definitions.Service.{roleOf, resting, stopped, endingOf, settled, hearOwn}
-use Rattle.rules.specs.Definitions.Slots.{heardAs, heard, serviceJudged, receptionJudged}
+use Rattle.rules.specs.Definitions.Service.{resting, stopped, endingOf, settled, hearOwn}
+use Rattle.rules.specs.Definitions.Slots.{heard, serviceJudged, receptionJudged}
 use Rattle.rules.specs.Statements.Receiving.{Log, noLog, sampledLog}
-use Rattle.rules.proofs.Receiving.OwnAttempt.{Judged, Own, Placed, done, due-level, failed, goes, inStart, level-start, lost, lost-follows, own-follows, own-small, placed-judged, placed-next, slot-judged}
+use Rattle.rules.proofs.Roles.{judge-apart, judge-driving, heard-nobody, heard-receiver, heard-sender}
+use Rattle.rules.proofs.Receiving.OwnAttempt.{Own, Placed, due-level, inStart, level-start, lost-follows, own-follows, own-small, placed-judged, placed-next}
+use Rattle.rules.proofs.Judged.{Judged, went, lost, broke, done, slot-judged}
 use Rattle.rules.specs.declared.Choice.the-variants.{Nothing}
 use Rattle.rules.specs.declared.Line.{Line}
 use Rattle.rules.specs.declared.Phase.{Phase}
@@ -280,48 +282,27 @@ module _ (s : Service) (r : Reception) (l : Log) (v : ℕ) (m : List ℕ) where
   opening-after : s .effort .progress .at ≡ 0 → underWay (r .place) ≡ false → l ≡ noLog
       → {w : Verdict} → Judged (s .effort .frame) (s .effort .progress .at) v w → After w (hearOwn w)
   unfolding hearOwn
-  opening-after z u n (goes e) = opening-goes z u n e
+  opening-after z u n (went e g) = opening-goes z u n e
   opening-after z u n (lost a b i) = absurd (omega arith)
-  opening-after z u n (failed {code = code}) = fault-after (Failed code) code (failed-apart code)
+  opening-after z u n (broke code g) = fault-after (Failed code) code (failed-apart code)
   opening-after z u n done = good-after Done done-apart
 
   driving-after : Own (s .effort .frame) → v < 2 → Following r l → Placed (s .effort .frame) (s .effort .progress .at) r → s .effort .progress .at ≤ 30 + 10 * s .effort .frame .n
       → {w : Verdict} → Judged (s .effort .frame) (s .effort .progress .at) v w → After w (hearOwn w)
   unfolding hearOwn
-  driving-after o small f p h (goes e) = driving-goes o small f p h e
+  driving-after o small f p h (went e g) = driving-goes o small f p h e
   driving-after o small f p h (lost a b i) = follows-after Lost lost-apart small f (lost-follows (s .effort .frame) (s .effort .progress .at) r v a i p)
-  driving-after o small f p h (failed {code = code}) = fault-after (Failed code) code (failed-apart code)
+  driving-after o small f p h (broke code g) = fault-after (Failed code) code (failed-apart code)
   driving-after o small f p h done = good-after Done done-apart
 
   closing-after : 30 + 10 * s .effort .frame .n < s .effort .progress .at → {w : Verdict} → Judged (s .effort .frame) (s .effort .progress .at) v w → After w (hearOwn w)
   unfolding hearOwn
-  closing-after h (goes e) = closing-goes (omega arith)
+  closing-after h (went e g) = closing-goes (omega arith)
   closing-after h (lost a b i) = absurd (omega arith)
-  closing-after h (failed {code = code}) = fault-after (Failed code) code (failed-apart code)
+  closing-after h (broke code g) = fault-after (Failed code) code (failed-apart code)
   closing-after h done = good-after Done done-apart
 
 -- ---- what the sample is, by what the model is in the frame under way
-
-pub judge-apart : (e : Effort) (v : ℕ) → drivesFrame (e .progress) ≡ false → judge e v ≡ Unjudged
-unfolding judge
-judge-apart e v d = rw d
-
-pub judge-driving : (e : Effort) (v : ℕ) → drivesFrame (e .progress) ≡ true → judge e v ≡ judgeSlot (e .frame) (e .progress .at) v
-unfolding judge
-judge-driving e v d = rw d
-
-module _ (k : Core) (w : Verdict) (v : ℕ) where
-  heard-nobody : drivesFrame (k .service .effort .progress) ≡ false → underWay (k .reception .place) ≡ false → heard k w v ≡ hearQuiet (k .line) v
-  unfolding heard heardAs roleOf
-  heard-nobody d u = rw (d, u)
-
-  pub heard-receiver : drivesFrame (k .service .effort .progress) ≡ false → underWay (k .reception .place) ≡ true → heard k w v ≡ hearFrame (k .reception) 30 v
-  unfolding heard heardAs roleOf
-  heard-receiver d u = rw (d, u)
-
-  heard-sender : drivesFrame (k .service .effort .progress) ≡ true → heard k w v ≡ hearOwn w
-  unfolding heard heardAs roleOf
-  heard-sender d = rw d
 
 module _ (k : Core) (l : Log) (v : ℕ) (small : v < 2) (m : List ℕ) (own : drivesFrame (k .service .effort .progress) ≡ true → Own (k .service .effort .frame))
     (empty : underWay (k .reception .place) ≡ false → l ≡ noLog) where

@@ -1,5 +1,5 @@
 -- The model's own frame as its receiver takes it, up to the end of the data: there contention may be lost, and the frame go on as another module's.
---   Judged == what a sample may be for the attempt        Own == the frame that a service sends        Placed == where its slot k stands for the receiver
+--   Own == the frame that a service sends        Placed == where its slot k stands for the receiver
 use Prim.Native.Nat.{ℕ, _+_, _-_, _*_, _/_, _%_, _≤_, _<_, min}
 use mathlib.Core.Bool.{Bool, true, false}
 use mathlib.Core.List.{List, _++_}
@@ -21,7 +21,7 @@ use Rattle.rules.specs.Definitions.Mailbox.{coded}
 use Rattle.rules.specs.Definitions.Reception.{atPlace, commandEnded, moved, entered, bitTaken, moreNibbles, bitsLaid, dataEnded, nibbleTaken, followStart, followBody, followIn, followed, winnerTaken}
 use Rattle.rules.specs.Definitions.Longest.{mostNibbles}
 use Rattle.rules.specs.Definitions.Hearing.{receptionAfter, hearSecondHalf, hearBody, hearStart, hearIn, hearFrame}
-use Rattle.rules.specs.Definitions.Attempt.{sentSlots, levelAt, due, overdriven, violated, recessiveLost, difference, judgeSlot}
+use Rattle.rules.specs.Definitions.Attempt.{sentSlots, levelAt, due, judgeSlot}
 use Rattle.rules.specs.Definitions.Slots.{receptionJudged}
 use Rattle.rules.proofs.Sending.Frames.{level-coded}
 use Rattle.rules.specs.declared.Phase.{Phase}
@@ -31,65 +31,6 @@ use Rattle.rules.specs.declared.Hearing.the-variants.{Follows}
 use Rattle.rules.specs.declared.Coded.{Coded}
 use Rattle.rules.specs.declared.Verdict.{Verdict}
 use Rattle.rules.specs.declared.Verdict.the-variants.{Goes, Lost, Failed, Done}
-
--- ---- the sender's judgement: contention is lost only in a plain bit or first half of identifier, command or data
-
-pub data Judged (x : Coded) (k v : ℕ) : Verdict → Type 0 where
-  goes : v ≡ due x k → Judged x k v Goes
-  lost : 10 ≤ k → k < 30 + 10 * x .n → inFive k < 4 → Judged x k v Lost
-  failed : {code : ℕ} → Judged x k v (Failed code)
-  done : Judged x k v Done
-
-module _ (x : Coded) (k v : ℕ) where
-  violated-judged : (p : Part) → Judged x k v (violated p)
-  unfolding violated
-  violated-judged part.Start = failed
-  violated-judged part.Identifier = failed
-  violated-judged part.Command = failed
-  violated-judged part.Data = failed
-  violated-judged part.Check = failed
-  violated-judged part.EndOfData = failed
-  violated-judged part.Acknowledge = failed
-  violated-judged part.EndOfFrame = failed
-  violated-judged part.After = failed
-
-  overdriven-judged : (10 ≤ k → k < 30 + 10 * x .n → inFive k < 4) → Judged x k v (overdriven (partOf (x .n) k))
-  unfolding partOf overdriven
-  overdriven-judged o =
-      picked P (ltb k 10) part.Start _ (λ e. failed) λ e₁.
-      picked P (ltb k 25) part.Identifier _ (λ e. open′ (ltb-false k 10 e₁) (omega (arith, ltb-true))) λ e₂.
-      picked P (ltb k 30) part.Command _ (λ e. open′ (ltb-false k 10 e₁) (omega (arith, ltb-true))) λ e₃.
-      picked P (ltb k (30 + 10 * x .n)) part.Data _ (λ e. open′ (ltb-false k 10 e₁) (ltb-true k (30 + 10 * x .n) e)) λ e₄.
-      picked P (ltb k (48 + 10 * x .n)) part.Check _ (λ e. failed) λ e₅.
-      picked P (ltb k (50 + 10 * x .n)) part.EndOfData _ (λ e. failed) λ e₆.
-      picked P (ltb k (52 + 10 * x .n)) part.Acknowledge _ (λ e. failed) λ e₇.
-      picked P (ltb k (60 + 10 * x .n)) part.EndOfFrame part.After (λ e. failed) (λ e. failed)
-    where
-      P : Part → Type 0
-      P p = Judged x k v (overdriven p)
-
-      open′ : 10 ≤ k → k < 30 + 10 * x .n → Judged x k v Lost
-      open′ a b = lost a b (o a b)
-
-  recessive-judged : Judged x k v (recessiveLost (halfOf (x .n) k) (partOf (x .n) k))
-  unfolding halfOf recessiveLost
-  recessive-judged =
-      picked P (ltb k 10) Plain _ (λ e. overdriven-judged (λ a b. absurd (omega (arith, ltb-true)))) λ e₁.
-      picked P (ltb k (50 + 10 * x .n)) _ Plain
-      (λ e₂. picked P (ltb (inFive k) 3) Plain _ (λ e. overdriven-judged (λ a b. omega (arith, ltb-true)))
-      (λ e. picked P (eqb (inFive k) 3) First Second (λ d. overdriven-judged (λ a b. omega (arith, eqb-true))) (λ d. violated-judged (partOf (x .n) k))))
-      (λ e₂. overdriven-judged (λ a b. absurd (omega (arith, ltb-false))))
-    where
-      P : Half → Type 0
-      P h = Judged x k v (recessiveLost h (partOf (x .n) k))
-
-  pub slot-judged : Judged x k v (judgeSlot x k v)
-  unfolding judgeSlot difference
-  slot-judged =
-      picked (Judged x k v) (eqb v (due x k)) _ _
-      (λ e. picked (Judged x k v) (ltb (k + 1) (size (x .n))) Goes Done (λ d. goes (eqb-true v (due x k) e)) (λ d. done))
-      (λ e. picked (Judged x k v) (eqb (levelAt x k) 1) (recessiveLost (halfOf (x .n) k) (partOf (x .n) k)) (violated (partOf (x .n) k))
-      (λ d. recessive-judged) (λ d. violated-judged (partOf (x .n) k)))
 
 -- ---- the model's own frame, up to the end of its data
 

@@ -6,6 +6,7 @@ use mathlib.Core.Path.{_≡_, refl, ap, _∙_, sym}
 use lib.Dec.{eqb}
 use lib.ListN.{getD}
 use Rattle.line.specs.Bits.{pick}
+use Rattle.rules.proofs.Logic.{left}
 use Rattle.rules.specs.Definitions.Setters.{withActivity, withReport, withLine, withService}
 use Rattle.rules.specs.Definitions.Longest.{longestOf}
 use Rattle.rules.specs.Definitions.Registers.{command, interruptReset, transmitControl, autonomous, unless, cleared, asksIdle, asksActivation}
@@ -15,7 +16,7 @@ use Rattle.rules.specs.Definitions.Delivery.{receiveError, reportStored,
 use Rattle.rules.specs.Definitions.Attempt.{inService, isServing, atStage}
 use Rattle.rules.specs.Definitions.Service.{resting, stopped, settled, reportSending, reportJudged, reportEnded, chosen, choiceOf, choose, started}
 use Rattle.rules.specs.Definitions.State.{isActive, inMode, serving, idled, idleDue, idleAsked, activated}
-use Rattle.rules.specs.Definitions.Slots.{delivers, serviceJudged, ending, reportAfter, chooses, choiceMade, startMade, followsOn}
+use Rattle.rules.specs.Definitions.Slots.{roleIn, delivers, serviceJudged, ending, reportAfter, chooses, choiceMade, startMade, followsOn}
 use Rattle.rules.specs.Definitions.Host.{modeCommanded, flagsCleared, coreWritten, stoppedCore}
 use Rattle.rules.specs.Statements.Tally.{Stand, away, between, opening, inside, Tally, choiceT, chooseIn, chooseT, startT}
 use Rattle.rules.proofs.Sending.Join.{made, serviceIn, serviceOf, choose-is, started-is}
@@ -34,11 +35,6 @@ use Rattle.rules.specs.declared.Ending.{Ending}
 use Rattle.rules.specs.declared.Ending.the-variants.{Going, Sent, Exhausted, Aborted, Rearbitrated}
 use Rattle.rules.specs.declared.Mode.the-variants.{Active}
 use Rattle.rules.specs.declared.Core.{Core}
-
--- what both ways of a test leave
-pub left : {A B : Type 0} (f : A → B) (t : Bool) (x y : A) (z : B) → f x ≡ z → f y ≡ z → f (pick t x y) ≡ z
-left f true x y z p q = p
-left f false x y z p q = q
 
 -- ---- a waiting idle leaves service and registers
 
@@ -169,10 +165,10 @@ te-heard Good r = refl
 pub te-judged : (k : Core) (w : Verdict) (h : Hearing) → reportAfter k w h .flags .te ≡ pick (isExhausted (ending k w)) true (k .report .flags .te)
 unfolding reportAfter
 te-judged k w h =
-    te-ended (ending k w) (reportJudged w (reportDelivered (delivers w h (k .reception)) (reportHeard h (k .report)) (k .reception)) (serviceJudged w (k .service))) (serviceJudged w (k .service))
+    te-ended (ending k w) (reportJudged w (reportDelivered (delivers (roleIn k) h (k .reception)) (reportHeard h (k .report)) (k .reception)) (serviceJudged w (k .service))) (serviceJudged w (k .service))
     ∙ ap (λ (b : Bool). pick (isExhausted (ending k w)) true b)
-    (te-verdict w (reportDelivered (delivers w h (k .reception)) (reportHeard h (k .report)) (k .reception)) (serviceJudged w (k .service))
-    ∙ te-delivered (delivers w h (k .reception)) (reportHeard h (k .report)) (k .reception)
+    (te-verdict w (reportDelivered (delivers (roleIn k) h (k .reception)) (reportHeard h (k .report)) (k .reception)) (serviceJudged w (k .service))
+    ∙ te-delivered (delivers (roleIn k) h (k .reception)) (reportHeard h (k .report)) (k .reception)
     ∙ te-heard h (k .report))
 
 -- ---- what follows a judged sample

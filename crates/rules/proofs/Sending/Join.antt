@@ -1,5 +1,5 @@
 -- The controller's service and the tally, joined by one equation: each part of a step commutes with it.
-use Prim.Native.Nat.{ℕ, _+_, _-_, _*_, _/_, _%_, _≤_, min}
+use Prim.Native.Nat.{ℕ, _+_, _*_, _/_, _%_, _≤_, min}
 use mathlib.Core.Bool.{Bool, true, false, false≢true}
 use mathlib.Core.List.{List, [], _∷_, _++_}
 use mathlib.Core.Path.{_≡_, refl, ap, _∙_, sym}
@@ -14,17 +14,18 @@ use Rattle.line.specs.declared.Part.{Part}
 use Rattle.line.specs.declared.Part.the-variants as part
 use Rattle.line.specs.declared.Half.{Half}
 use Rattle.line.specs.declared.Half.the-variants.{Plain, First, Second}
-use Rattle.rules.specs.Definitions.Registers.{both, command, transmitControl, autonomous, asksRearbitration}
+use Rattle.rules.specs.Definitions.Registers.{both, CV, ACKE, FCSE, command, transmitControl, autonomous, asksRearbitration}
 use Rattle.rules.specs.Definitions.Channels.{acknowledgeAsked, base, cher}
 use Rattle.rules.specs.Definitions.Mailbox.{coded, codedBytes}
 use Rattle.rules.specs.Definitions.Reception.{free, underWay, startEnded}
 use Rattle.rules.specs.Definitions.Attempt as attempt
-use Rattle.rules.specs.Definitions.Attempt.{largest, moreSlots, moreAttempts, noCounts, atStage, inService, isServing, betweenAttempts, isBetween, waits, isWaiting, drivesFrame, isDriving, levelAt, due, overdriven, violated, recessiveLost, difference, judgeSlot, judge, slotSpent, lostSpent, errorSpent, advance, exhausted}
+use Rattle.rules.specs.Definitions.Attempt.{largest, moreSlots, moreAttempts, noCounts, atStage, inService, isServing, betweenAttempts, isBetween, waits, isWaiting, drivesFrame, isDriving, levelAt, due, openHalf, arbitrated, inCheck, inAcknowledge, differenceIn, difference, judgeSlot, judge, slotSpent, lostSpent, errorSpent, advance, exhausted}
 use Rattle.rules.specs.Definitions.Service.{resting, stopped, endingOf, settled, chosen, choiceOf, opened, started, abortAsked, rearAsked, aborts}
 use Rattle.rules.specs.Definitions.Slots.{serviceJudged}
 use Rattle.rules.specs.Definitions.Host.{rearCommanded, serviceAsked}
+use Rattle.rules.proofs.Judged.{Judged, went, lost, broke, done, slot-judged}
 use Rattle.rules.specs.Statements.Tally as tally
-use Rattle.rules.specs.Statements.Tally.{Stand, away, between, opening, inside, Tally, none, goes, contended, failed, sent, asksAcknowledge, dueLevel, openHalf, arbitrated, verdict, spentT, judgedAs, countedIn, countedT, givenUp, endedIn, endedT, chosenT, choiceT, startIn, startT, isAway, asks, askedIn, askedT}
+use Rattle.rules.specs.Statements.Tally.{Stand, away, between, opening, inside, Tally, none, goes, contended, failed, sent, asksAcknowledge, dueLevel, verdict, spentT, judgedAs, countedIn, countedT, givenUp, endedIn, endedT, chosenT, choiceT, startIn, startT, isAway, asks, askedIn, askedT}
 use Rattle.rules.specs.declared.Choice.{Choice}
 use Rattle.rules.specs.declared.Choice.the-variants.{Nothing, Lowest}
 use Rattle.rules.specs.declared.Line.{Line}
@@ -78,50 +79,15 @@ kind Lost = contended
 kind (Failed code) = failed
 kind Done = sent
 
--- a verdict of an attempt that is under way
-pub data Judged : Verdict → Type 0 where
-  went : Judged Goes
-  lost : Judged Lost
-  broke : {code : ℕ} → Judged (Failed code)
-  done : Judged Done
-
-overdriven-kind : (p : Part) → kind (overdriven p) ≡ pick (arbitrated p) contended failed
-unfolding kind overdriven arbitrated
-overdriven-kind part.Start = refl
-overdriven-kind part.Identifier = refl
-overdriven-kind part.Command = refl
-overdriven-kind part.Data = refl
-overdriven-kind part.Check = refl
-overdriven-kind part.EndOfData = refl
-overdriven-kind part.Acknowledge = refl
-overdriven-kind part.EndOfFrame = refl
-overdriven-kind part.After = refl
-
-violated-kind : (p : Part) → kind (violated p) ≡ failed
-unfolding kind violated
-violated-kind part.Start = refl
-violated-kind part.Identifier = refl
-violated-kind part.Command = refl
-violated-kind part.Data = refl
-violated-kind part.Check = refl
-violated-kind part.EndOfData = refl
-violated-kind part.Acknowledge = refl
-violated-kind part.EndOfFrame = refl
-violated-kind part.After = refl
-
-lost-kind : (h : Half) (p : Part) → kind (recessiveLost h p) ≡ pick (both (openHalf h) (arbitrated p)) contended failed
-unfolding recessiveLost openHalf
-lost-kind Plain p = overdriven-kind p
-lost-kind First p = overdriven-kind p
-lost-kind Second p = violated-kind p
-
-difference-kind : (n k d : ℕ) → kind (difference n k d) ≡ pick (both (eqb d 1) (both (openHalf (halfOf n k)) (arbitrated (partOf n k)))) contended failed
-unfolding difference
-difference-kind n k d = go (eqb d 1)
+difference-kind : (p : Part) (o : Bool) → kind (differenceIn p o) ≡ pick (both o (arbitrated p)) contended failed
+unfolding differenceIn
+difference-kind p o = go (both o (arbitrated p)) (both o (inCheck p)) (inAcknowledge p)
   where
-    go : (t : Bool) → kind (pick t (recessiveLost (halfOf n k) (partOf n k)) (violated (partOf n k))) ≡ pick (both t (both (openHalf (halfOf n k)) (arbitrated (partOf n k)))) contended failed
-    go true = lost-kind (halfOf n k) (partOf n k)
-    go false = violated-kind (partOf n k)
+    go : (a b c : Bool) → kind (pick a Lost (pick b (Failed FCSE) (pick c (Failed ACKE) (Failed CV)))) ≡ pick a contended failed
+    go true b c = unfold kind in refl
+    go false true c = unfold kind in refl
+    go false false true = unfold kind in refl
+    go false false false = unfold kind in refl
 
 asks-same : (f : Frame) → acknowledgeAsked (getD (codedBytes f) 1 0) ≡ asksAcknowledge f
 unfolding acknowledgeAsked asksAcknowledge codedBytes
@@ -138,50 +104,10 @@ kind-same f k v =
     rw (due-same f k) (go (eqb v (dueLevel f k (levelAt (coded f) k))) (ltb (k + 1) (size (length (f .bytes)))))
   where
     go : (a b : Bool) → kind (pick a (pick b Goes Done) (difference (length (f .bytes)) k (levelAt (coded f) k)))
-        ≡ pick a (pick b goes sent) (pick (both (eqb (levelAt (coded f) k) 1) (both (openHalf (halfOf (length (f .bytes)) k)) (arbitrated (partOf (length (f .bytes)) k)))) contended failed)
+        ≡ pick a (pick b goes sent) (pick (both (both (eqb (levelAt (coded f) k) 1) (openHalf (halfOf (length (f .bytes)) k))) (arbitrated (partOf (length (f .bytes)) k))) contended failed)
     go true true = unfold kind in refl
     go true false = unfold kind in refl
-    go false b = difference-kind (length (f .bytes)) k (levelAt (coded f) k)
-
-overdriven-judged : (p : Part) → Judged (overdriven p)
-unfolding overdriven
-overdriven-judged part.Start = broke
-overdriven-judged part.Identifier = lost
-overdriven-judged part.Command = lost
-overdriven-judged part.Data = lost
-overdriven-judged part.Check = broke
-overdriven-judged part.EndOfData = broke
-overdriven-judged part.Acknowledge = broke
-overdriven-judged part.EndOfFrame = broke
-overdriven-judged part.After = broke
-
-violated-judged : (p : Part) → Judged (violated p)
-unfolding violated
-violated-judged part.Start = broke
-violated-judged part.Identifier = broke
-violated-judged part.Command = broke
-violated-judged part.Data = broke
-violated-judged part.Check = broke
-violated-judged part.EndOfData = broke
-violated-judged part.Acknowledge = broke
-violated-judged part.EndOfFrame = broke
-violated-judged part.After = broke
-
-lost-judged : (h : Half) (p : Part) → Judged (recessiveLost h p)
-unfolding recessiveLost
-lost-judged Plain p = overdriven-judged p
-lost-judged First p = overdriven-judged p
-lost-judged Second p = violated-judged p
-
-pub slot-judged : (x : Coded) (k v : ℕ) → Judged (judgeSlot x k v)
-unfolding judgeSlot difference
-slot-judged x k v = go (eqb v (due x k)) (ltb (k + 1) (size (x .n))) (eqb (levelAt x k) 1)
-  where
-    go : (a b d : Bool) → Judged (pick a (pick b Goes Done) (pick d (recessiveLost (halfOf (x .n) k) (partOf (x .n) k)) (violated (partOf (x .n) k))))
-    go true true d = went
-    go true false d = done
-    go false b true = lost-judged (halfOf (x .n) k) (partOf (x .n) k)
-    go false b false = violated-judged (partOf (x .n) k)
+    go false b = unfold difference in difference-kind (partOf (length (f .bytes)) k) (both (eqb (levelAt (coded f) k) 1) (openHalf (halfOf (length (f .bytes)) k)))
 
 -- ---- counts
 
@@ -270,12 +196,12 @@ unfolding serviceOf endedT
 settled-is t h = settled-in (t .stand) t refl h
 
 -- the sample judged, and the service settled
-settle-judged : {w : Verdict} → Judged w → (t : Tally) (stage : Stage) (k start : ℕ) (levels : List ℕ) → k + 1 ≡ start + length levels → t .errors ≤ 15
+settle-judged : {x : Coded} {i v : ℕ} {w : Verdict} → Judged x i v w → (t : Tally) (stage : Stage) (k start : ℕ) (levels : List ℕ) → k + 1 ≡ start + length levels → t .errors ≤ 15
     → settled (endingOf w (serviceJudged w (made t stage k))) (serviceJudged w (made t stage k)) ≡ serviceOf (endedT (judgedAs (kind w) t start levels))
 unfolding endingOf kind
-settle-judged went t stage k start levels e h = rw (gone-on t stage k start levels e) (settled-is (judgedAs goes t start levels) (unfold judgedAs spentT in omega arith))
-settle-judged lost t stage k start levels e h = rw (was-lost t stage k start levels) (settled-is (judgedAs contended t start levels) (unfold judgedAs spentT in omega arith))
-settle-judged (broke {code = code}) t stage k start levels e h = rw (has-failed t stage k start levels code) (settled-is (judgedAs failed t start levels) (unfold judgedAs spentT in omega arith))
+settle-judged (went a b) t stage k start levels e h = rw (gone-on t stage k start levels e) (settled-is (judgedAs goes t start levels) (unfold judgedAs spentT in omega arith))
+settle-judged (lost a b c) t stage k start levels e h = rw (was-lost t stage k start levels) (settled-is (judgedAs contended t start levels) (unfold judgedAs spentT in omega arith))
+settle-judged (broke code c) t stage k start levels e h = rw (has-failed t stage k start levels code) (settled-is (judgedAs failed t start levels) (unfold judgedAs spentT in omega arith))
 settle-judged done t stage k start levels e h = unfold settled serviceOf serviceIn endedT endedIn judgedAs spentT none in refl
 
 -- ---- a slot's sample

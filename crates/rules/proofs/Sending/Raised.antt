@@ -14,8 +14,10 @@ use Rattle.rules.specs.Definitions.Service.{resting, stopped, endingOf}
 use Rattle.rules.specs.Definitions.Slots.{serviceJudged}
 use Rattle.rules.specs.Statements.Tally as tally
 use Rattle.rules.specs.Statements.Tally.{Stand, away, between, opening, inside, Tally, goes, contended, failed, verdict, spentT, judgedAs, countedIn, countedT, isAway}
-use Rattle.rules.proofs.Sending.Join.{made, serviceIn, serviceOf, kind, Judged, went, lost, broke, done, slot-judged, kind-same, stopped-made, gone-on, was-lost, has-failed, judge-driving, last-level, drivenIn, isBetweenStand}
+use Rattle.rules.proofs.Judged.{Judged, went, lost, broke, done, slot-judged}
+use Rattle.rules.proofs.Sending.Join.{made, serviceIn, serviceOf, kind, kind-same, stopped-made, gone-on, was-lost, has-failed, judge-driving, last-level, drivenIn, isBetweenStand}
 use Rattle.rules.proofs.Sending.Follow.{isExhausted}
+use Rattle.rules.specs.declared.Coded.{Coded}
 use Rattle.rules.specs.declared.Stage.{Stage}
 use Rattle.rules.specs.declared.Stage.the-variants.{Waiting, Opening, Sending}
 use Rattle.rules.specs.declared.Service.{Service}
@@ -36,14 +38,14 @@ exhausted-sending : (t : Tally) (at : ℕ) → isExhausted (stopped (made t Send
 unfolding stopped made betweenAttempts atStage isBetween isExhausted
 exhausted-sending t at = refl
 
-exhausted-judged : {w : Verdict} → Judged w → (t : Tally) (stage : Stage) (k start : ℕ) (levels : List ℕ) → k + 1 ≡ start + length levels → t .errors ≤ t .setting → t .setting ≤ 15
+exhausted-judged : {x : Coded} {i v : ℕ} {w : Verdict} → Judged x i v w → (t : Tally) (stage : Stage) (k start : ℕ) (levels : List ℕ) → k + 1 ≡ start + length levels → t .errors ≤ t .setting → t .setting ≤ 15
     → isExhausted (endingOf w (serviceJudged w (made t stage k))) ≡ ltb (judgedAs (kind w) t start levels .setting) (judgedAs (kind w) t start levels .errors)
 unfolding endingOf kind judgedAs spentT serviceOf serviceIn isBetween isExhausted
-exhausted-judged went t stage k start levels e g h =
+exhausted-judged (went a b) t stage k start levels e g h =
     ap (λ (s : Service). isExhausted (stopped s)) (gone-on t stage k start levels e) ∙ exhausted-sending (judgedAs goes t start levels) (start + length levels) ∙ sym (le-ltb (t .setting) (t .errors) (omega arith))
-exhausted-judged lost t stage k start levels e g h =
+exhausted-judged (lost a b c) t stage k start levels e g h =
     ap (λ (s : Service). isExhausted (stopped s)) (was-lost t stage k start levels) ∙ exhausted-between (judgedAs contended t start levels) Waiting 0 refl (omega arith)
-exhausted-judged (broke {code = code}) t stage k start levels e g h =
+exhausted-judged (broke code c) t stage k start levels e g h =
     ap (λ (s : Service). isExhausted (stopped s)) (has-failed t stage k start levels code) ∙ exhausted-between (judgedAs failed t start levels) Waiting 0 refl (omega arith)
 exhausted-judged done t stage k start levels e g h = sym (le-ltb (t .setting) (t .errors) (omega arith))
 

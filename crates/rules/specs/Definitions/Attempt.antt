@@ -14,7 +14,7 @@ use Rattle.line.specs.declared.Part.the-variants.{Start, Identifier, Command, D
 use Rattle.line.specs.declared.Half.{Half}
 use Rattle.line.specs.declared.Half.the-variants.{Plain, First, Second}
 use Rattle.rules.specs.Definitions.Setters.{withSlots, withLost, withErrors, withProgress, withCounters}
-use Rattle.rules.specs.Definitions.Registers.{CV, ACKE, FCSE}
+use Rattle.rules.specs.Definitions.Registers.{both, CV, ACKE, FCSE}
 use Rattle.rules.specs.Definitions.Channels.{acknowledgeAsked}
 use Rattle.rules.specs.declared.Timeslots.{Timeslots}
 use Rattle.rules.specs.declared.Attempts.{Attempts}
@@ -98,38 +98,58 @@ due x k = pick (eqb k (51 + 10 * x .n)) (pick (acknowledgeAsked (getD (x .bytes)
 
 -- ---- the sender's judgement
 
--- "Recessive driven and dominant sampled in a plain bit or first half of a pair of identifier, command or data is lost contention .. In the check it is an error, FCSE."
-unfoldable pub overdriven : Part → Verdict
-overdriven Start = Failed CV
-overdriven Identifier = Lost
-overdriven Command = Lost
-overdriven Data = Lost
-overdriven Check = Failed FCSE
-overdriven EndOfData = Failed CV
-overdriven Acknowledge = Failed ACKE
-overdriven EndOfFrame = Failed CV
-overdriven After = Failed CV
+-- "a plain bit or first half of a pair"
+unfoldable pub openHalf : Half → Bool
+openHalf Plain = true
+openHalf First = true
+openHalf Second = false
 
--- "Every other difference is an error: CV, or ACKE in the acknowledge"
-unfoldable pub violated : Part → Verdict
-violated Start = Failed CV
-violated Identifier = Failed CV
-violated Command = Failed CV
-violated Data = Failed CV
-violated Check = Failed CV
-violated EndOfData = Failed CV
-violated Acknowledge = Failed ACKE
-violated EndOfFrame = Failed CV
-violated After = Failed CV
+-- "of identifier, command or data"
+unfoldable pub arbitrated : Part → Bool
+arbitrated Start = false
+arbitrated Identifier = true
+arbitrated Command = true
+arbitrated Data = true
+arbitrated Check = false
+arbitrated EndOfData = false
+arbitrated Acknowledge = false
+arbitrated EndOfFrame = false
+arbitrated After = false
 
-unfoldable pub recessiveLost : Half → Part → Verdict
-recessiveLost Plain p = overdriven p
-recessiveLost First p = overdriven p
-recessiveLost Second p = violated p
+unfoldable pub inCheck : Part → Bool
+inCheck Start = false
+inCheck Identifier = false
+inCheck Command = false
+inCheck Data = false
+inCheck Check = true
+inCheck EndOfData = false
+inCheck Acknowledge = false
+inCheck EndOfFrame = false
+inCheck After = false
+
+unfoldable pub inAcknowledge : Part → Bool
+inAcknowledge Start = false
+inAcknowledge Identifier = false
+inAcknowledge Command = false
+inAcknowledge Data = false
+inAcknowledge Check = false
+inAcknowledge EndOfData = false
+inAcknowledge Acknowledge = true
+inAcknowledge EndOfFrame = false
+inAcknowledge After = false
+
+-- "Recessive driven and dominant sampled in a plain bit or first half of a pair of identifier, command or data is lost contention .. In the check it is an error, FCSE.
+-- Every other difference is an error: CV, or ACKE in the acknowledge"; o is that recessive is driven in a plain bit or first half
+unfoldable pub differenceIn : Part → Bool → Verdict
+differenceIn p o =
+    pick (both o (arbitrated p)) Lost
+    (pick (both o (inCheck p)) (Failed FCSE)
+    (pick (inAcknowledge p) (Failed ACKE)
+    (Failed CV)))
 
 -- a sample unlike the level due, d the level driven
 unfoldable pub difference : ℕ → ℕ → ℕ → Verdict
-difference n k d = pick (eqb d 1) (recessiveLost (halfOf n k) (partOf n k)) (violated (partOf n k))
+difference n k d = differenceIn (partOf n k) (both (eqb d 1) (openHalf (halfOf n k)))
 
 -- "ends in the slot where it is lost, fails or has sent its last"
 unfoldable pub judgeSlot : Coded → ℕ → ℕ → Verdict

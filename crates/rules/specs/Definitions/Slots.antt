@@ -1,6 +1,6 @@
 -- A slot of an active controller (01, Receiving and Sending): the sample is judged with all its effects; then a waiting idle that has come due; then the choice;
 -- then a start; then the answer.
---   heard, delivers, ending == what a sample is        memoryJudged, coreJudged == memory map and state with its effects
+--   roleIn == what the model is in the frame under way        heard, delivers, ending == what a sample is        memoryJudged, coreJudged == memory map and state with its effects
 --   idleDue, choiceMade, startMade == what follows        drives == the level for the next slot
 use Prim.Native.Nat.{ℕ}
 use mathlib.Core.Bool.{Bool, true, false}
@@ -23,7 +23,6 @@ use Rattle.rules.specs.declared.Delivery.{Delivery}
 use Rattle.rules.specs.declared.Delivery.the-variants.{Nothing}
 use Rattle.rules.specs.declared.Service.{Service}
 use Rattle.rules.specs.declared.Verdict.{Verdict}
-use Rattle.rules.specs.declared.Verdict.the-variants.{Unjudged, Goes, Lost, Failed, Done}
 use Rattle.rules.specs.declared.Ending.{Ending}
 use Rattle.rules.specs.declared.Role.{Role}
 use Rattle.rules.specs.declared.Role.the-variants.{Nobody, Receiver, Sender}
@@ -32,21 +31,22 @@ use Rattle.rules.specs.declared.Controller.{Controller}
 
 -- ---- what a sample is
 
+abbrev pub roleIn : Core → Role
+roleIn k = roleOf (k .service .effort .progress) (k .reception .place)
+
 unfoldable pub heardAs : Role → Core → Verdict → ℕ → Hearing
 heardAs Nobody k w v = hearQuiet (k .line) v
 heardAs Receiver k w v = hearFrame (k .reception) (longestOf k) v
 heardAs Sender k w v = hearOwn w
 
 unfoldable pub heard : Core → Verdict → ℕ → Hearing
-heard k w v = heardAs (roleOf (k .service .effort .progress) (k .reception .place)) k w v
+heard k w v = heardAs (roleIn k) k w v
 
 -- "The model's own frame, sent whole or ended by an error, is not stored, touches no receiving channel"
-unfoldable pub delivers : Verdict → Hearing → Reception → Delivery
-delivers Unjudged h r = deliveryOf h r
-delivers Goes h r = Nothing
-delivers Lost h r = Nothing
-delivers (Failed code) h r = Nothing
-delivers Done h r = Nothing
+unfoldable pub delivers : Role → Hearing → Reception → Delivery
+delivers Nobody h r = Nothing
+delivers Receiver h r = deliveryOf h r
+delivers Sender h r = Nothing
 
 unfoldable pub serviceJudged : Verdict → Service → Service
 serviceJudged w s = withEffort s (advance w (s .effort))
@@ -65,12 +65,12 @@ receptionJudged m h r v =
 unfoldable pub reportAfter : Core → Verdict → Hearing → Report
 reportAfter k w h =
     reportEnded (ending k w)
-    (reportJudged w (reportDelivered (delivers w h (k .reception)) (reportHeard h (k .report)) (k .reception)) (serviceJudged w (k .service)))
+    (reportJudged w (reportDelivered (delivers (roleIn k) h (k .reception)) (reportHeard h (k .report)) (k .reception)) (serviceJudged w (k .service)))
     (serviceJudged w (k .service))
 
 -- the store or CHER first, then the marks of a service that ends
 unfoldable pub memoryJudged : List ℕ → Core → Verdict → Hearing → List ℕ
-memoryJudged m k w h = memoryEnded (ending k w) (memoryDelivered (delivers w h (k .reception)) m (k .reception)) (k .service .channel)
+memoryJudged m k w h = memoryEnded (ending k w) (memoryDelivered (delivers (roleIn k) h (k .reception)) m (k .reception)) (k .service .channel)
 
 unfoldable pub coreJudged : List ℕ → Core → Verdict → Hearing → ℕ → Core
 coreJudged m k w h v =
@@ -104,7 +104,7 @@ drivesAs Receiver k = receiverLevel (k .reception)
 drivesAs Sender k = levelAt (k .service .effort .frame) (k .service .effort .progress .at)
 
 unfoldable pub drives : Core → ℕ
-drives k = drivesAs (roleOf (k .service .effort .progress) (k .reception .place)) k
+drives k = drivesAs (roleIn k) k
 
 -- ---- the slot
 

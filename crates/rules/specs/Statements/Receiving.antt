@@ -18,9 +18,8 @@ use Rattle.rules.specs.Definitions.Mailbox.{statusByte, laidFrom, retagg
 use Rattle.rules.specs.Definitions.Reception.{takesStart, underWay}
 use Rattle.rules.specs.Statements.Valid.{high, low, owes, Valid}
 use Rattle.rules.specs.Definitions.Attempt.{judge}
-use Rattle.rules.specs.Definitions.Service.{roleOf}
 use Rattle.rules.specs.Definitions.State.{isActive}
-use Rattle.rules.specs.Definitions.Slots.{heard, drives, sampleOf}
+use Rattle.rules.specs.Definitions.Slots.{roleIn, heard, drives, sampleOf}
 use Rattle.rules.specs.Definitions.Run.{next}
 use Rattle.rules.specs.Statements.Sending.{accepted}
 use Rattle.rules.specs.declared.Winner.{Winner}
@@ -80,7 +79,7 @@ abbrev pub taker : Log → Frame → Winner
 taker l f = winnerFor (l .held) (high f) (low f)
 
 abbrev pub role : Controller → Role
-role c = roleOf (c .core .service .effort .progress) (c .core .reception .place)
+role c = roleIn (c .core)
 
 -- ---- a slot
 

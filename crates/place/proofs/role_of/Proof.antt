@@ -1,6 +1,6 @@
 use Rattle.rules.specs.Definitions.Service.{roleOf}
-use Rattle.slots.proofs.role_of.Statement.{statement}
-use Rattle.slots.proofs.role_of.Tie as tie
+use Rattle.place.proofs.role_of.Statement.{statement}
+use Rattle.place.proofs.role_of.Tie as tie
 
 pub role-of-spec : {M : Type 1} → statement M
 unfolding roleOf
