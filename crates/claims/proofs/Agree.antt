@@ -49,17 +49,17 @@ empty [] e = refl
 empty (x ∷ s) e = absurd (false≢true (sym (eqb·suc-zero (length s)) ∙ e))
 
 -- a frame whose slots begin with the samples
-pub record Ends (m : List ℕ) (l : Log) (s : List ℕ) : Type 0 where
+pub record Ends (longest : ℕ) (m : List ℕ) (l : Log) (s : List ℕ) : Type 0 where
   pub which : Frame
-  pub fits : Fits 30 which
+  pub fits : Fits longest which
   pub slots-are : l .samples ++ s ≡ slots which
   pub valid : Valid (winnerFor m (high which) (low which)) which
 
-module _ (m : List ℕ) where
-  ends-here : (r : Reception) (l : Log) → Following r l → Late m l → (v : ℕ) → v < 2 → hearFrame r 30 v ≡ Good → Ends m l (v ∷ [])
+module _ (longest : ℕ) (most : longest ≤ capacity) (m : List ℕ) where
+  ends-here : (r : Reception) (l : Log) → Following longest r l → Late m l → (v : ℕ) → v < 2 → hearFrame r longest v ≡ Good → Ends longest m l (v ∷ [])
   unfolding size
   ends-here r l f i v h e =
-      let w : Whole capacity r (l .samples ++ (v ∷ [])) = invariant-good r (l .samples) (f .invariant) v h e in
+      let w : Whole longest r (l .samples ++ (v ∷ [])) = invariant-good r (l .samples) (f .invariant) v h e in
       let a = length-append (l .samples) (v ∷ []) in
       let b : length (l .samples ++ (v ∷ [])) ≡ size (length (w .frame .bytes)) = ap length (w .slots-are) ∙ slots-length (w .frame) in
       let k : l .held ≡ m = i (omega arith) in
@@ -70,12 +70,12 @@ module _ (m : List ℕ) where
   unfolding sampledLog
   longer l v s = append-assoc (l .samples) (v ∷ []) s
 
-  invariant-from : (s : List ℕ) → Below 2 s → (r : Reception) (l : Log) → Following r l → Late m l → receives m r s ≡ true → Ends m l s
+  sound-from : (s : List ℕ) → Below 2 s → (r : Reception) (l : Log) → Following longest r l → Late m l → receives longest m r s ≡ true → Ends longest m l s
   unfolding receives goesOn
-  invariant-from [] none r l f i e = absurd (false≢true e)
-  invariant-from (v ∷ s) (one y b) r l f i e = go (λ k q j. invariant-from s b k q j) (hearFrame r 30 v) refl e
+  sound-from [] none r l f i e = absurd (false≢true e)
+  sound-from (v ∷ s) (one y b) r l f i e = go (λ k q j. sound-from s b k q j) (hearFrame r longest v) refl e
     where
-      go : ((k : Reception) (q : Log) → Following k q → Late m q → receives m k s ≡ true → Ends m q s) → (h : Hearing) → hearFrame r 30 v ≡ h → goesOn h s (receives m (receptionJudged m Follows r v) s) ≡ true → Ends m l (v ∷ s)
+      go : ((k : Reception) (q : Log) → Following longest k q → Late m q → receives longest m k s ≡ true → Ends longest m q s) → (h : Hearing) → hearFrame r longest v ≡ h → goesOn h s (receives longest m (receptionJudged m Follows r v) s) ≡ true → Ends longest m l (v ∷ s)
       go rec Silent d x = absurd (false≢true x)
       go rec Follows d x =
           let t = rec (receptionJudged m Follows r v) (sampledLog l v m) (following-next r l f v y d m) (late-next m l v i) x in
@@ -84,7 +84,7 @@ module _ (m : List ℕ) where
       go rec Good d x = rw (empty s x) (ends-here r l f i v y d)
 
   -- who takes it: nobody before the map is held
-  winner-valid : (r : Reception) (l : Log) → Following r l → Late m l → (f : Frame) → Fits 30 f → (rest : List ℕ) → l .samples ++ rest ≡ slots f
+  winner-valid : (r : Reception) (l : Log) → Following longest r l → Late m l → (f : Frame) → Fits longest f → (rest : List ℕ) → l .samples ++ rest ≡ slots f
       → Valid (winnerFor m (high f) (low f)) f → Valid (r .winner) f
   winner-valid r l w i f g rest e v = go (ltb (length (l .samples)) 30) refl
     where
@@ -96,13 +96,13 @@ module _ (m : List ℕ) where
           let n : r .winner ≡ winnerFor m (high f) (low f) = w .winner ∙ rw (i h, k .0, k .1) in
           subst (λ (x : Winner). Valid x f) (sym n) v
 
-  enough-from : (v : ℕ) (s : List ℕ) → Below 2 (v ∷ s) → (r : Reception) (l : Log) → Following r l → Late m l → Ends m l (v ∷ s) → receives m r (v ∷ s) ≡ true
+  complete-from : (v : ℕ) (s : List ℕ) → Below 2 (v ∷ s) → (r : Reception) (l : Log) → Following longest r l → Late m l → Ends longest m l (v ∷ s) → receives longest m r (v ∷ s) ≡ true
   unfolding receives goesOn
-  enough-from v [] b r l f i t = rw (invariant-last r (l .samples) (f .invariant) (t .which) (t .fits) v (t .slots-are))
-  enough-from v (x ∷ s) (one y b) r l f i t =
-      let d : hearFrame r 30 v ≡ Follows =
+  complete-from v [] b r l f i t = rw (invariant-last r (l .samples) (f .invariant) (t .which) (t .fits) v (t .slots-are))
+  complete-from v (x ∷ s) (one y b) r l f i t =
+      let d : hearFrame r longest v ≡ Follows =
       invariant-goes r (l .samples) (f .invariant) (t .which) (t .fits) (winner-valid r l f i (t .which) (t .fits) (v ∷ x ∷ s) (t .slots-are) (t .valid)) v x s (t .slots-are) in
-      rw d (enough-from x s b (receptionJudged m Follows r v) (sampledLog l v m) (following-next r l f v y d m) (late-next m l v i)
+      rw d (complete-from x s b (receptionJudged m Follows r v) (sampledLog l v m) (following-next r l f v y d m) (late-next m l v i)
       (record { which = t .which; fits = t .fits; slots-are = longer l v (x ∷ s) ∙ t .slots-are; valid = t .valid }))
 
   late-begun : Late m (sampledLog noLog 0 m)
@@ -113,18 +113,18 @@ module _ (m : List ℕ) where
   unfolding sampledLog noLog
   begun-samples s = refl
 
-  pub agree-sound : (s : List ℕ) → Below 2 s → receives m begun s ≡ true → Accepted m (0 ∷ s)
+  pub agree-sound : (s : List ℕ) → Below 2 s → receives longest m begun s ≡ true → Accepted longest m (0 ∷ s)
   agree-sound s b e =
-      let t = invariant-from s b begun (sampledLog noLog 0 m) (begun-following m) late-begun e in
-      record { which = t .which; decodes = codec 30 .exact (0 ∷ s) (t .which) .1 (t .fits, sym (begun-samples s) ∙ t .slots-are); valid = t .valid }
+      let t = sound-from s b begun (sampledLog noLog 0 m) (begun-following most m) late-begun e in
+      record { which = t .which; decodes = codec longest .exact (0 ∷ s) (t .which) .1 (t .fits, sym (begun-samples s) ∙ t .slots-are); valid = t .valid }
 
   begun-short : (f : Frame) → 0 ∷ [] ≡ slots f → ⊥
   unfolding size
   begun-short f e = let b : length {A = ℕ} (0 ∷ []) ≡ size (length (f .bytes)) = ap length e ∙ slots-length f in omega arith
 
-  pub agree-complete : (s : List ℕ) → Below 2 s → Accepted m (0 ∷ s) → receives m begun s ≡ true
-  agree-complete [] b a = absurd (begun-short (a .which) (codec 30 .exact (0 ∷ []) (a .which) .0 (a .decodes) .1))
+  pub agree-complete : (s : List ℕ) → Below 2 s → Accepted longest m (0 ∷ s) → receives longest m begun s ≡ true
+  agree-complete [] b a = absurd (begun-short (a .which) (codec longest .exact (0 ∷ []) (a .which) .0 (a .decodes) .1))
   agree-complete (v ∷ s) b a =
-      let k = codec 30 .exact (0 ∷ v ∷ s) (a .which) .0 (a .decodes) in
-      enough-from v s b begun (sampledLog noLog 0 m) (begun-following m) late-begun
+      let k = codec longest .exact (0 ∷ v ∷ s) (a .which) .0 (a .decodes) in
+      complete-from v s b begun (sampledLog noLog 0 m) (begun-following most m) late-begun
       (record { which = a .which; fits = k .0; slots-are = begun-samples (v ∷ s) ∙ k .1; valid = a .valid })

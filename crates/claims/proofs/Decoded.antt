@@ -7,6 +7,7 @@ use Rattle.line.specs.Frame.{Frame, Fits, slots}
 use Rattle.codec.specs.declared.Refusal.{Refusal}
 use Rattle.codec.specs.Decode.{frame, refused, reading}
 use Rattle.codec.proofs.Exact.{codec}
+use Rattle.rules.specs.Definitions.Longest.{longestOf}
 use Rattle.rules.specs.Statements.Valid.{Valid}
 use Rattle.rules.specs.Definitions.Run.{fresh, next}
 use Rattle.rules.specs.Statements.Receiving as rule
@@ -22,25 +23,25 @@ no-frame : {f : Frame} {r : Refusal} → refused r ≡ frame f → ⊥
 no-frame e = let z : _≡_ {A = ℕ} 0 1 = cc in omega arith
 
 module _ (c : Controller) (l : Log) (levels : ℕ) (d : Delivers c l levels) where
-  sound : (s : List ℕ) (f : Frame) → reading 30 s ≡ frame f → Fits 30 f × (s ≡ slots f)
-  sound s f e = codec 30 .exact s f .0 e
+  sound : (s : List ℕ) (f : Frame) → reading (longestOf (c .core)) s ≡ frame f → Fits (longestOf (c .core)) f × (s ≡ slots f)
+  sound s f e = codec (longestOf (c .core)) .exact s f .0 e
 
-  back : (s : List ℕ) (f : Frame) → Fits 30 f → s ≡ slots f → reading 30 s ≡ frame f
-  back s f g e = codec 30 .exact s f .1 (g, e)
+  back : (s : List ℕ) (f : Frame) → Fits (longestOf (c .core)) f → s ≡ slots f → reading (longestOf (c .core)) s ≡ frame f
+  back s f g e = codec (longestOf (c .core)) .exact s f .1 (g, e)
 
   slot-good : hears c levels ≡ Good → Decodable c l levels
   slot-good h = let t = d .good h in record { which = t .frame; decodes = back _ (t .frame) (t .fits) (t .whole) }
 
-  slot-taken : (f : Frame) → reading 30 (heardSoFar c l levels) ≡ frame f → Taken c l levels f
+  slot-taken : (f : Frame) → reading (longestOf (c .core)) (heardSoFar c l levels) ≡ frame f → Taken c l levels f
   slot-taken f e =
       let k = sound (heardSoFar c l levels) f e in
       let h : hears c levels ≡ Good = d .complete f (k .0) (k .1) in
       let t : rule.Taken c l levels = d .good h in
-      let n : t .frame ≡ f = codec 30 .one (t .frame) f (t .fits) (k .0) (sym (t .whole) ∙ k .1) in
+      let n : t .frame ≡ f = codec (longestOf (c .core)) .one (t .frame) f (t .fits) (k .0) (sym (t .whole) ∙ k .1) in
       record {
         valid = subst (λ (x : Frame). Valid (taker l x) x) n (t .valid);
         whole = k .1;
-        one = λ g i q. codec 30 .one g f i (k .0) (sym q ∙ k .1);
+        one = λ g i q. codec (longestOf (c .core)) .one g f i (k .0) (sym q ∙ k .1);
         ends = h;
         memory = t .memory ∙ ap (λ (x : Frame). received (c .memory) (taker l x) x) n;
       }

@@ -13,6 +13,7 @@ use Rattle.line.specs.Bits.{pick}
 use Rattle.line.specs.Frame.{Frame, Fits}
 use Rattle.line.proofs.Laws.{picked}
 use Rattle.rules.specs.Definitions.Registers.{readOnly, writeOnly, resetValues}
+use Rattle.rules.specs.Definitions.Longest.{capacity}
 use Rattle.rules.specs.Definitions.Channels.{base, takes, nobody, winnerOf, lowest, lowestListening, won, winnerFor}
 use Rattle.rules.proofs.Matching.Lowest.{found}
 use Rattle.rules.specs.Definitions.Mailbox.{mailboxAt, statusByte, laidFrom, stored, retagged, markedCher, markedChtx, markedChrx, rowsWritten, resetMemory}
@@ -121,7 +122,7 @@ module _ (m : List ℕ) (w : Winner) (f : Frame) where
   laid-in : (x : List ℕ) (k : ℕ) → getD (markedChrx (retagged x (w .channel) (high f) (low f)) (w .channel)) (mailboxAt (w .pointer) k) 0 ≡ getD x (mailboxAt (w .pointer) k) 0
   laid-in x k = channel-bytes x (mailboxAt (w .pointer) k) (λ e. mailbox-apart k 0 (omega arith) (omega arith)) (mailbox-apart k 1 (omega arith)) (mailbox-apart k 3 (omega arith))
 
-  pub laid-at : length m ≡ 256 → Fits 30 f → w .matched ≡ true → length (f .bytes) + 1 ≤ w .length
+  pub laid-at : length m ≡ 256 → Fits capacity f → w .matched ≡ true → length (f .bytes) + 1 ≤ w .length
       → (k : ℕ) → k ≤ length (f .bytes) → getD (received m w f) (mailboxAt (w .pointer) k) 0 ≡ getD (statusByte (low f) (length (f .bytes)) ∷ f .bytes) k 0
   unfolding storedFrame
   laid-at l g e h k i =

@@ -25,11 +25,11 @@ goesOn (Fault code) s rest = false
 goesOn Good s rest = eqb (length s) 0
 
 -- from the frame under way on; m is the memory map that names who takes it
-unfoldable pub receives : List ℕ → Reception → List ℕ → Bool
-receives m r [] = false
-receives m r (v ∷ s) = goesOn (hearFrame r 30 v) s (receives m (receptionJudged m Follows r v) s)
+unfoldable pub receives : ℕ → List ℕ → Reception → List ℕ → Bool
+receives longest m r [] = false
+receives longest m r (v ∷ s) = goesOn (hearFrame r longest v) s (receives longest m (receptionJudged m Follows r v) s)
 
-pub record Accepted (m s : List ℕ) : Type 0 where
+pub record Accepted (longest : ℕ) (m s : List ℕ) : Type 0 where
   pub which : Frame
-  pub decodes : reading 30 s ≡ frame which
+  pub decodes : reading longest s ≡ frame which
   pub valid : Valid (winnerFor m (high which) (low which)) which

@@ -21,6 +21,7 @@ use Rattle.codec.specs.Decode.{Reading, frame, refused, reading, decoded, decod
 use Rattle.codec.specs.declared.Refusal as codec-refusal
 use Rattle.codec.specs.declared.Encoded.the-variants as encoding
 use Rattle.codec.specs.declared.Decoded.the-variants as decoding
+use Rattle.rules.specs.Definitions.Longest.{capacity}
 use Rattle.rules.specs.Definitions.Registers.{readOnly, writeOnly, reserved, fixedBits}
 use Rattle.rules.specs.Definitions.Channels.{base, matches, takes, winnerFor}
 use Rattle.rules.specs.Statements.Bits.{bitAt}
@@ -120,7 +121,7 @@ pub record Matching : Type 0 where
 -- `received m w f` is what frame f does to the memory map m where w takes it
 pub record Storing : Type 0 where
   -- "goes whole": "the status byte .. at 0x80 + pointer and the n data bytes after it"
-  pub whole : (m : List ℕ) (w : Winner) (f : Frame) → length m ≡ 256 → Fits 30 f → w .matched ≡ true → length (f .bytes) + 1 ≤ w .length
+  pub whole : (m : List ℕ) (w : Winner) (f : Frame) → length m ≡ 256 → Fits capacity f → w .matched ≡ true → length (f .bytes) + 1 ≤ w .length
       → (k : ℕ) → k ≤ length (f .bytes) → getD (received m w f) (mailboxAt (w .pointer) k) 0 ≡ getD (statusByte (low f) (length (f .bytes)) ∷ f .bytes) k 0
   -- "and nowhere else": beside them only tag and status of the channel that takes it change
   pub nowhere-else : (m : List ℕ) (w : Winner) (f : Frame) → w .matched ≡ true → length (f .bytes) + 1 ≤ w .length
@@ -136,9 +137,9 @@ pub record Receiving : Type 0 where
   -- "a valid frame that an active controller takes from another module": in the slot in which its samples decode to a frame that frame is delivered, and in no other does a mailbox byte change;
   -- a fault is heard only where they can decode to no valid frame (specs/Decoded.antt)
   pub delivered : (es : List Event) → Decoded fresh noLog es
-  -- the receiver begun by a dominant slot takes a slot list exactly if it decodes to a valid frame (specs/Agree.antt)
-  pub sound : (m s : List ℕ) → Below 2 s → agree.receives m begun s ≡ true → agree.Accepted m (0 ∷ s)
-  pub complete : (m s : List ℕ) → Below 2 s → agree.Accepted m (0 ∷ s) → agree.receives m begun s ≡ true
+  -- the receiver begun by a dominant slot takes a slot list exactly if it decodes to a valid frame, for every longest length that the state has room for (specs/Agree.antt)
+  pub sound : (longest : ℕ) → longest ≤ capacity → (m s : List ℕ) → Below 2 s → agree.receives longest m begun s ≡ true → agree.Accepted longest m (0 ∷ s)
+  pub complete : (longest : ℕ) → longest ≤ capacity → (m s : List ℕ) → Below 2 s → agree.Accepted longest m (0 ∷ s) → agree.receives longest m begun s ≡ true
   -- "Matched and fitting, RAK 1, DRAK 0, check right: the model drives the acknowledge", and no other dominant level where it isn't the sender
   -- (Acknowledges in crates/rules/specs/Statements/Receiving.antt); and a closed run in which it is driven and the frame stored
   pub acknowledged : (es : List Event) → Delivered fresh noLog es

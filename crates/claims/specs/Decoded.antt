@@ -9,6 +9,7 @@ use lib.ListN.{getD}
 use Rattle.line.specs.Frame.{Frame, Fits, slots}
 use Rattle.codec.specs.declared.Refusal.{Refusal}
 use Rattle.codec.specs.Decode.{frame, refused, reading}
+use Rattle.rules.specs.Definitions.Longest.{longestOf}
 use Rattle.rules.specs.Statements.Valid.{Valid}
 use Rattle.rules.specs.Definitions.State.{isActive}
 use Rattle.rules.specs.Definitions.Slots.{sampleOf}
@@ -28,25 +29,25 @@ heardSoFar c l levels = l .samples ++ (sampleOf c levels ∷ [])
 pub record Taken (c : Controller) (l : Log) (levels : ℕ) (f : Frame) : Type 0 where
   pub valid : Valid (taker l f) f
   pub whole : heardSoFar c l levels ≡ slots f
-  pub one : (g : Frame) → Fits 30 g → heardSoFar c l levels ≡ slots g → g ≡ f
+  pub one : (g : Frame) → Fits (longestOf (c .core)) g → heardSoFar c l levels ≡ slots g → g ≡ f
   pub ends : hears c levels ≡ Good
   pub memory : next c (Slot levels) .memory ≡ received (c .memory) (taker l f) f
 
 -- a frame that the samples decode to
 pub record Decodable (c : Controller) (l : Log) (levels : ℕ) : Type 0 where
   pub which : Frame
-  pub decodes : reading 30 (heardSoFar c l levels) ≡ frame which
+  pub decodes : reading (longestOf (c .core)) (heardSoFar c l levels) ≡ frame which
 
 pub record Decodes (c : Controller) (l : Log) (levels : ℕ) : Type 0 where
   -- where the samples decode to a frame, that frame is delivered
-  pub taken : (f : Frame) → reading 30 (heardSoFar c l levels) ≡ frame f → Taken c l levels f
+  pub taken : (f : Frame) → reading (longestOf (c .core)) (heardSoFar c l levels) ≡ frame f → Taken c l levels f
   -- and what is delivered is what they decode to
   pub good : hears c levels ≡ Good → Decodable c l levels
   -- where they don't, no byte of the mailbox changes
-  pub early : (r : Refusal) → reading 30 (heardSoFar c l levels) ≡ refused r → (a : ℕ) → 0x80 ≤ a → getD (next c (Slot levels) .memory) a 0 ≡ getD (c .memory) a 0
+  pub early : (r : Refusal) → reading (longestOf (c .core)) (heardSoFar c l levels) ≡ refused r → (a : ℕ) → 0x80 ≤ a → getD (next c (Slot levels) .memory) a 0 ≡ getD (c .memory) a 0
   -- a fault is heard only where the samples decode to no valid frame, whatever follows them
   pub fault : (code : ℕ) → hears c levels ≡ Fault code
-      → (rest : List ℕ) (f : Frame) → reading 30 (l .samples ++ (sampleOf c levels ∷ rest)) ≡ frame f → Valid (taker l f) f → ⊥
+      → (rest : List ℕ) (f : Frame) → reading (longestOf (c .core)) (l .samples ++ (sampleOf c levels ∷ rest)) ≡ frame f → Valid (taker l f) f → ⊥
 
 abbrev pub DecodesIn : Controller → Log → Event → Type 0
 DecodesIn c l Reset = Unit {0}

@@ -16,6 +16,7 @@ use Rattle.line.proofs.Laws.{picked}
 use Rattle.line.proofs.Levels.{level-at}
 use Rattle.line.specs.Layout.{partOf, levelIn, levelOf}
 use Rattle.line.specs.declared.Part.the-variants as part
+use Rattle.rules.specs.Definitions.Longest.{capacity}
 use Rattle.rules.specs.Definitions.Registers.{command, transmitControl, autonomous, asksRearbitration}
 use Rattle.rules.specs.Definitions.Channels.{base, withCher, withChtx}
 use Rattle.rules.specs.Definitions.Mailbox.{coded, markedCher, markedChtx}
@@ -318,14 +319,14 @@ module _ (k : Core) (t : Tally) (stage : Stage) (at : ℕ) (b : isDriving stage 
       let r : roleOf (k .service .effort .progress) (k .reception .place) ≡ Sender = rw (e, b) in
       ap (λ (x : Role). drivesAs x k) r ∙ ap (λ (s : Service). levelAt (s .effort .frame) (s .effort .progress .at)) e
 
-  drives-recessive : Fits 30 (t .frame) × (t .frame .acknowledge ≡ false) → 50 + 10 * k .service .effort .frame .n ≤ k .service .effort .progress .at
+  drives-recessive : Fits capacity (t .frame) × (t .frame .acknowledge ≡ false) → 50 + 10 * k .service .effort .frame .n ≤ k .service .effort .progress .at
       → k .service .effort .progress .at < 52 + 10 * k .service .effort .frame .n → drives k ≡ 1
   drives-recessive f g h =
       let p : k .service .effort .progress .at ≡ at = unfold made atStage in ap (λ (s : Service). s .effort .progress .at) e in
       let n : k .service .effort .frame .n ≡ length (t .frame .bytes) = unfold made coded in ap (λ (s : Service). s .effort .frame .n) e in
       drives-level ∙ level-coded (t .frame) (f .0) (f .1) at ∙ recessive (t .frame) (f .1) at (omega arith) (omega arith)
 
-recessive-in : (s : Stand) (t : Tally) (k : Core) → k .service ≡ serviceIn s t → (isAway s ≡ false → Fits 30 (t .frame) × (t .frame .acknowledge ≡ false))
+recessive-in : (s : Stand) (t : Tally) (k : Core) → k .service ≡ serviceIn s t → (isAway s ≡ false → Fits capacity (t .frame) × (t .frame .acknowledge ≡ false))
     → drivesFrame (k .service .effort .progress) ≡ true → 50 + 10 * k .service .effort .frame .n ≤ k .service .effort .progress .at
     → k .service .effort .progress .at < 52 + 10 * k .service .effort .frame .n → drives k ≡ 1
 recessive-in away t k e f d g h =

@@ -12,6 +12,7 @@ use Rattle.line.specs.Bits.{Below, none, one}
 use Rattle.line.specs.Frame.{Fits}
 use Rattle.line.proofs.Laws.{picked}
 use Rattle.rules.specs.Definitions.Registers.{transmitControl, readOnly, resetValues, retrySetting}
+use Rattle.rules.specs.Definitions.Longest.{capacity}
 use Rattle.rules.specs.Definitions.Channels.{base, bufferOf, twelve, withCher, withChtx, withChrx, channels, channelAt, lengthOf, noBuffer, ownBuffer, linkedBuffer, nobody, winnerOf, lowest, lowestListening, won, winnerFor, takes, ready, lowestReady}
 use Rattle.rules.specs.Definitions.Mailbox.{mailboxAt, statusByte, laidFrom, stored, mailboxBytes, dataIn, sentFrame, retagged, rowsWritten, markedCher, markedChtx, markedChrx, resetMemory}
 use Rattle.rules.proofs.Ranges.Limits.{WinnerLimits}
@@ -47,9 +48,9 @@ zeros-below (suc n) = one {x = 0} (omega arith) (zeros-below n)
 
 -- ---- the frame that a channel sends, and the retry setting
 
-pub data-small : (l : ℕ) → dataIn l ≤ 30
+pub data-small : (l : ℕ) → dataIn l ≤ capacity
 unfolding dataIn
-data-small l = picked (λ x. x ≤ 30) (eqb l 0) 0 ((l - 1) % 31) (λ e. omega arith) (λ e. omega arith)
+data-small l = picked (λ x. x ≤ capacity) (eqb l 0) 0 ((l - 1) % (capacity + 1)) (λ e. omega arith) (λ e. omega arith)
 
 pub mailbox-below : {m : List ℕ} → Below 256 m → (p k n : ℕ) → Below 256 (mailboxBytes m p k n)
 unfolding mailboxBytes
@@ -61,7 +62,7 @@ unfolding mailboxBytes
 mailbox-length m p k zero = refl
 mailbox-length m p k (suc n) = ap suc (mailbox-length m p (k + 1) n)
 
-pub fits-sent : (m : List ℕ) (c : ℕ) → Below 256 m → Fits 30 (sentFrame m c)
+pub fits-sent : (m : List ℕ) (c : ℕ) → Below 256 m → Fits capacity (sentFrame m c)
 unfolding sentFrame twelve
 fits-sent m c b =
     let high = at-below b (base c) in

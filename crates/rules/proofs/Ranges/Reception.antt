@@ -41,7 +41,7 @@ unfolding quiet atPlace
 quiet-received =
     record {
       limits = record { at = omega arith; nibbles = omega arith; bits = omega arith; winner = nobody-limits };
-      bytes = zeros-below 34;
+      bytes = zeros-below (capacity + 4);
     }
 
 begun-received : Received begun

@@ -15,7 +15,6 @@ use Rattle.line.proofs.Laws.{bits-length, code-length, slots-length, picked}
 use Rattle.rules.specs.Definitions.Setters.{withReport, withService}
 use Rattle.rules.specs.Definitions.Channels.{base}
 use Rattle.rules.specs.Definitions.Mailbox.{stored, markedCher, markedChtx}
-use Rattle.rules.specs.Definitions.Longest.{capacity}
 use Rattle.rules.specs.Definitions.Reception.{atPlace, isUnderWay, takesStart, underWay, commandEnded, begun, moved, entered, bitTaken, bitsLaid, dataEnded, nibbleTaken, followStart, followBody, followIn, followed, winnerTaken, followAcknowledge, followEnd}
 use Rattle.rules.specs.Definitions.Hearing.{receptionAfter, hearFrame, hearQuiet, acknowledges, acknowledgeLevel, receiverIn, receiverLevel, fits}
 use Rattle.rules.specs.Statements.Valid.{high, low, owes, Valid}
@@ -69,19 +68,19 @@ use Rattle.rules.specs.declared.Event.the-variants.{Reset, Write, Read, 
 
 -- ---- another module's frame
 
-following-at : {e : Effort} {r : Reception} {l : Log} → At e r l → drivesFrame (e .progress) ≡ false → underWay (r .place) ≡ true → Following r l
+following-at : {longest : ℕ} {e : Effort} {r : Reception} {l : Log} → At longest e r l → drivesFrame (e .progress) ≡ false → underWay (r .place) ≡ true → Following longest r l
 following-at (apart d u) a b = absurd (false≢true (sym u ∙ b))
 following-at (receiving d f) a b = f
 following-at (starting d z u) a b = absurd (false≢true (sym a ∙ d))
 following-at (driving d f p h) a b = f
 following-at (at.closing d n h) a b = absurd (false≢true (sym a ∙ d))
 
-module _ (r : Reception) (l : Log) (w : Following r l) where
+module _ {longest : ℕ} (r : Reception) (l : Log) (w : Following longest r l) where
   taker-is : (f : Frame) → getD (r .bytes) 0 0 ≡ high f → getD (r .bytes) 1 0 ≡ low f → r .winner ≡ taker l f
   taker-is f h k = w .winner ∙ rw (h, k)
 
   -- who takes a frame that the samples open
-  taker-opens : (f : Frame) → Fits 30 f → (rest : List ℕ) → l .samples ++ rest ≡ slots f → r .winner ≡ taker l f
+  taker-opens : (f : Frame) → Fits longest f → (rest : List ℕ) → l .samples ++ rest ≡ slots f → r .winner ≡ taker l f
   taker-opens f i rest e = go (ltb (length (l .samples)) 30) refl
     where
       go : (b : Bool) → ltb (length (l .samples)) 30 ≡ b → r .winner ≡ taker l f
@@ -95,7 +94,7 @@ unfolding memoryJudged ending endingOf serviceJudged advance delivers
 unjudged-memory m k h q g = rw (q, g) (unfold memoryEnded in refl)
 
 -- what a good frame does to it
-good-memory : (m : List ℕ) (r : Reception) {s : List ℕ} (w : Whole capacity r s) → memoryDelivered (deliveryOf hearing.Good r) m r ≡ received m (r .winner) (w .frame)
+good-memory : {longest : ℕ} (m : List ℕ) (r : Reception) {s : List ℕ} (w : Whole longest r s) → memoryDelivered (deliveryOf hearing.Good r) m r ≡ received m (r .winner) (w .frame)
 unfolding deliveryOf deliveryTo delivered fits received
 good-memory m r w = rw (w .count-is) (go (r .winner .matched) (leb (length (w .frame .bytes) + 1) (r .winner .length)))
   where
@@ -106,7 +105,7 @@ good-memory m r w = rw (w .count-is) (go (r .winner .matched) (leb (length (w .f
     go false b = unfold memoryDelivered in refl
 
 -- what it does to 0x07
-good-error : (x : Report) (r : Reception) {s : List ℕ} (w : Whole capacity r s) → reportDelivered (deliveryOf hearing.Good r) (reportHeard hearing.Good x) r .error ≡ errorAfter (x .error) (r .winner) (w .frame)
+good-error : {longest : ℕ} (x : Report) (r : Reception) {s : List ℕ} (w : Whole longest r s) → reportDelivered (deliveryOf hearing.Good r) (reportHeard hearing.Good x) r .error ≡ errorAfter (x .error) (r .winner) (w .frame)
 unfolding deliveryOf deliveryTo delivered fits errorAfter reportHeard
 good-error x r w = rw (w .count-is) (go (r .winner .matched) (leb (length (w .frame .bytes) + 1) (r .winner .length)))
   where
@@ -272,13 +271,13 @@ valid-as : {w x : Winner} {f : Frame} → w ≡ x → Valid x f → Valid w f
 valid-as {w} {x} {f} e v = subst (λ (z : Winner). Valid z f) (sym e) v
 
 module _ (c : Controller) (t : Tally) (l : Log) (i : Logs c l) (levels : ℕ) (y : accepted c (Slot levels) ≡ true) (a : isActive (c .core .activity .mode) ≡ true) (q : role c ≡ Receiver) where
-  follows : Following (c .core .reception) l
+  follows : Following (longestOf (c .core)) (c .core .reception) l
   follows = let z = receiver-is (c .core .service .effort .progress) (c .core .reception .place) q in following-at (i .stands .stage) (z .0) (z .1)
 
-  invariant : Invariant capacity (c .core .reception) (l .samples)
+  invariant : Invariant (longestOf (c .core)) (c .core .reception) (l .samples)
   invariant = follows .invariant
 
-  hears-is : hears c levels ≡ hearFrame (c .core .reception) 30 (sampleOf c levels)
+  hears-is : hears c levels ≡ hearFrame (c .core .reception) (longestOf (c .core)) (sampleOf c levels)
   hears-is = let z = receiver-is (c .core .service .effort .progress) (c .core .reception .place) q in heard-receiver (c .core) _ (sampleOf c levels) (z .0) (z .1)
 
   next-memory : next c (Slot levels) .memory ≡ memoryDelivered (deliveryOf (hears c levels) (c .core .reception)) (c .memory) (c .core .reception)
@@ -369,7 +368,7 @@ module _ (c : Controller) (l : Log) (i : Logs c l) where
   owing : role c ≡ Receiver → receiverLevel (c .core .reception) ≡ 0 → Owing (longestOf (c .core)) l
   owing q h =
       let z = receiver-is (c .core .service .effort .progress) (c .core .reception .place) q in
-      let f : Following (c .core .reception) l = following-at (i .stands .stage) (z .0) (z .1) in
+      let f : Following (longestOf (c .core)) (c .core .reception) l = following-at (i .stands .stage) (z .0) (z .1) in
       let o = invariant-acknowledges (c .core .reception) (l .samples) (f .invariant) h in
       let n : c .core .reception .winner ≡ taker l (o .frame) = taker-is (c .core .reception) l f (o .frame) (o .high-is) (o .low-is) in
       record {
@@ -390,11 +389,11 @@ module _ (c : Controller) (l : Log) (i : Logs c l) where
       go Receiver e d = owing e (unfold drivesAs in d)
       go Sender e d = absurd (n e)
 
-  due-driven : role c ≡ Receiver → (f : Frame) → Fits 30 f → owes (taker l f) f ≡ true → (rest : List ℕ) → length rest ≡ 9 → l .samples ++ rest ≡ slots f → drives (c .core) ≡ 0
+  due-driven : role c ≡ Receiver → (f : Frame) → Fits (longestOf (c .core)) f → owes (taker l f) f ≡ true → (rest : List ℕ) → length rest ≡ 9 → l .samples ++ rest ≡ slots f → drives (c .core) ≡ 0
   unfolding drives drivesAs
   due-driven q f g o rest n e =
       let z = receiver-is (c .core .service .effort .progress) (c .core .reception .place) q in
-      let w : Following (c .core .reception) l = following-at (i .stands .stage) (z .0) (z .1) in
+      let w : Following (longestOf (c .core)) (c .core .reception) l = following-at (i .stands .stage) (z .0) (z .1) in
       let k : c .core .reception .winner ≡ taker l f = taker-opens (c .core .reception) l w f g rest e in
       rw q (invariant-owed (c .core .reception) (l .samples) (w .invariant) f g (ap (λ (x : Winner). owes x f) k ∙ o) rest n e)
 

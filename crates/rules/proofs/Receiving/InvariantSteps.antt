@@ -11,7 +11,7 @@ use lib.ListN.{length, getD, take, replicate, replicate-append-replicate}
 use lib.Seq.{take-suc}
 use Rattle.line.specs.Bits.{pick, bits, Below}
 use Rattle.line.specs.LineCode.{lineCode}
-use Rattle.line.specs.Frame.{Frame, Fits, byteBits, carried, start, endOfData, acknowledgeSlots}
+use Rattle.line.specs.Frame.{byteBits, carried, start, endOfData, acknowledgeSlots}
 use Rattle.line.proofs.Laws.{bits-split, code-append, picked}
 use Rattle.rules.specs.Definitions.Registers.{both, FV, CV, FCSE}
 use Rattle.rules.specs.Definitions.Channels.{acknowledgeAsked}
@@ -22,6 +22,7 @@ use Rattle.rules.specs.Definitions.Hearing.{whole, replyRequest, checkRe
 use Rattle.rules.proofs.Ranges.Bytes.{zeros-below}
 use Rattle.rules.specs.Statements.Valid.{low, owes}
 use Rattle.rules.proofs.Receiving.Invariant.{frameHeld, InStart, InBody, Carried, InAcknowledge, InEnd, InvariantIn, Invariant}
+use Rattle.rules.proofs.Sending.Frames.{wider}
 use Rattle.rules.proofs.Receiving.Rows.{nibbles-length, nibble-added, Padded, zeros-bits, nibble-padded, nibble-long, nibble-below, nibble-slots, bit-added}
 use Rattle.rules.proofs.Receiving.Held.{row-held, held-covered, held-fits, held-low, held-length, coded-same, held-same}
 use Rattle.rules.specs.declared.Phase.{Phase}
@@ -66,9 +67,6 @@ whole-count longest j e = go (eqb (j % 2) 1) refl (leb 7 j) refl e
         rw (le-ltb j 7 l) (omega arith, omega arith)
     go true p false q e = absurd (false≢true e)
     go false p b q e = absurd (false≢true e)
-
-wider : {longest : ℕ} {f : Frame} → longest ≤ capacity → Fits longest f → Fits capacity f
-wider most f = record { identifier = f .identifier; command = f .command; size = omega (arith, f .size); bytes = f .bytes }
 
 -- ---- the start
 

@@ -13,7 +13,7 @@ use Rattle.line.specs.Frame.{start}
 use Rattle.line.proofs.Laws.{picked}
 use Rattle.rules.specs.Definitions.Registers.{both, either}
 use Rattle.rules.specs.Definitions.Channels.{extension, channelAt, statusBits, receiveMessage, requestDetection, listens, takes, lowest, lowestListening, won, winnerFor, nobody}
-use Rattle.rules.specs.Definitions.Longest.{capacity}
+use Rattle.rules.specs.Definitions.Longest.{capacity, longestOf}
 use Rattle.rules.specs.Definitions.Reception.{atPlace, quiet, isUnderWay, takesStart, underWay, isBody, inBody, behind, commandEnded, begun, followIn, followed, winnerTaken}
 use Rattle.rules.specs.Definitions.Hearing.{receptionAfter, hearFrame, hearQuiet}
 use Rattle.rules.proofs.Receiving.Invariant.{Invariant}
@@ -69,17 +69,17 @@ none-wins high low = rw (none-lowest (λ c. takes [] c high low) (none-takes hig
 
 -- ---- the frame under way follows
 
-pub record Following (r : Reception) (l : Log) : Type 0 where
-  pub invariant : Invariant capacity r (l .samples)
+pub record Following (longest : ℕ) (r : Reception) (l : Log) : Type 0 where
+  pub invariant : Invariant longest r (l .samples)
   pub winner : r .winner ≡ winnerFor (l .held) (getD (r .bytes) 0 0) (getD (r .bytes) 1 0)
   pub before : length (l .samples) < 30 → l .held ≡ []
 
-pub begun-following : (m : List ℕ) → Following begun (sampledLog noLog 0 m)
+pub begun-following : {longest : ℕ} → longest ≤ capacity → (m : List ℕ) → Following longest begun (sampledLog noLog 0 m)
 unfolding sampledLog noLog
-begun-following m = record { invariant = invariant-begun (omega arith); winner = unfold begun quiet in (sym (none-wins 0 0)); before = λ h. refl }
+begun-following most m = record { invariant = invariant-begun most; winner = unfold begun quiet in (sym (none-wins 0 0)); before = λ h. refl }
 
-module _ (r : Reception) (l : Log) (f : Following r l) (v : ℕ) (small : v < 2) (h : hearFrame r 30 v ≡ Follows) (m : List ℕ) where
-  invariant-then : Invariant capacity (followed r v) (l .samples ++ (v ∷ []))
+module _ {longest : ℕ} (r : Reception) (l : Log) (f : Following longest r l) (v : ℕ) (small : v < 2) (h : hearFrame r longest v ≡ Follows) (m : List ℕ) where
+  invariant-then : Invariant longest (followed r v) (l .samples ++ (v ∷ []))
   invariant-then = invariant-step r (l .samples) (f .invariant) v small h
 
   -- the winner stays, and so do identifier and command once it is taken
@@ -95,7 +95,7 @@ module _ (r : Reception) (l : Log) (f : Following r l) (v : ℕ) (small : v < 2)
           invariant-winner r (l .samples) (f .invariant) v ∙ f .winner ∙ rw (k .0, k .1)
 
   following-as : (b : Bool) → eqb (length (l .samples ++ (v ∷ []))) 30 ≡ b
-      → Following (pick b (winnerTaken (followed r v) m) (followed r v)) (record { samples = l .samples ++ (v ∷ []); held = pick b m (l .held) })
+      → Following longest (pick b (winnerTaken (followed r v) m) (followed r v)) (record { samples = l .samples ++ (v ∷ []); held = pick b m (l .held) })
   following-as true e =
       record {
         invariant = invariant-named (followed r v) (l .samples ++ (v ∷ [])) invariant-then (invariant-command (followed r v) (l .samples ++ (v ∷ [])) invariant-then ∙ e) m;
@@ -106,7 +106,7 @@ module _ (r : Reception) (l : Log) (f : Following r l) (v : ℕ) (small : v < 2)
       let n = length-append (l .samples) (v ∷ []) in
       record { invariant = invariant-then; winner = winner-kept; before = λ x. f .before (omega arith) }
 
-  pub following-next : Following (receptionJudged m Follows r v) (sampledLog l v m)
+  pub following-next : Following longest (receptionJudged m Follows r v) (sampledLog l v m)
   unfolding sampledLog receptionJudged receptionAfter
   following-next =
       rw (invariant-command (followed r v) (l .samples ++ (v ∷ [])) invariant-then) (following-as (eqb (length (l .samples ++ (v ∷ []))) 30) refl)
@@ -114,16 +114,16 @@ module _ (r : Reception) (l : Log) (f : Following r l) (v : ℕ) (small : v < 2)
 -- ---- what holds between events
 
 -- apart: no frame under way, none driven. closing: the own frame behind its data, where contention is no longer lost
-pub data At (e : Effort) (r : Reception) (l : Log) : Type 0 where
-  apart : drivesFrame (e .progress) ≡ false → underWay (r .place) ≡ false → At e r l
-  receiving : drivesFrame (e .progress) ≡ false → Following r l → At e r l
-  starting : drivesFrame (e .progress) ≡ true → e .progress .at ≡ 0 → underWay (r .place) ≡ false → At e r l
-  driving : drivesFrame (e .progress) ≡ true → Following r l → Placed (e .frame) (e .progress .at) r → e .progress .at ≤ 30 + 10 * e .frame .n → At e r l
-  closing : drivesFrame (e .progress) ≡ true → betweenAttempts (e .progress) ≡ false → 30 + 10 * e .frame .n < e .progress .at → At e r l
+pub data At (longest : ℕ) (e : Effort) (r : Reception) (l : Log) : Type 0 where
+  apart : drivesFrame (e .progress) ≡ false → underWay (r .place) ≡ false → At longest e r l
+  receiving : drivesFrame (e .progress) ≡ false → Following longest r l → At longest e r l
+  starting : drivesFrame (e .progress) ≡ true → e .progress .at ≡ 0 → underWay (r .place) ≡ false → At longest e r l
+  driving : drivesFrame (e .progress) ≡ true → Following longest r l → Placed (e .frame) (e .progress .at) r → e .progress .at ≤ 30 + 10 * e .frame .n → At longest e r l
+  closing : drivesFrame (e .progress) ≡ true → betweenAttempts (e .progress) ≡ false → 30 + 10 * e .frame .n < e .progress .at → At longest e r l
 
-pub record Stands (s : Service) (r : Reception) (l : Log) : Type 0 where
+pub record Stands (longest : ℕ) (s : Service) (r : Reception) (l : Log) : Type 0 where
   pub going : stopped s ≡ Going
-  pub stage : At (s .effort) r l
+  pub stage : At longest (s .effort) r l
 
 -- ---- the end of a service
 
@@ -175,10 +175,10 @@ underway-quiet Body e = absurd (false≢true (sym e))
 underway-quiet Acknowledge e = absurd (false≢true (sym e))
 underway-quiet End e = absurd (false≢true (sym e))
 
-module _ (s : Service) (r : Reception) (l : Log) (v : ℕ) (m : List ℕ) where
+module _ (longest : ℕ) (s : Service) (r : Reception) (l : Log) (v : ℕ) (m : List ℕ) where
   -- service, frame under way and log after a sample
   abbrev After : Verdict → Hearing → Type 0
-  After w h = Stands (settledAfter w s) (receptionJudged m h r v) (sampledLog l v m)
+  After w h = Stands longest (settledAfter w s) (receptionJudged m h r v) (sampledLog l v m)
 
   -- the frame has ended
   fault-after : (w : Verdict) (code : ℕ) → drivesFrame (settledAfter w s .effort .progress) ≡ false → After w (Fault code)
@@ -188,7 +188,7 @@ module _ (s : Service) (r : Reception) (l : Log) (v : ℕ) (m : List ℕ) where
   good-after w d = record { going = after-going w s; stage = apart d (unfold receptionJudged receptionAfter quiet atPlace underWay isUnderWay commandEnded behind inBody isBody in refl) }
 
   -- it goes on, and the model only listens
-  follows-after : (w : Verdict) → drivesFrame (settledAfter w s .effort .progress) ≡ false → v < 2 → Following r l → hearFrame r 30 v ≡ Follows → After w Follows
+  follows-after : (w : Verdict) → drivesFrame (settledAfter w s .effort .progress) ≡ false → v < 2 → Following longest r l → hearFrame r longest v ≡ Follows → After w Follows
   follows-after w d small f h = record { going = after-going w s; stage = receiving d (following-next r l f v small h m) }
 
   unjudged-apart : drivesFrame (s .effort .progress) ≡ false → drivesFrame (settledAfter Unjudged s .effort .progress) ≡ false
@@ -196,7 +196,7 @@ module _ (s : Service) (r : Reception) (l : Log) (v : ℕ) (m : List ℕ) where
   unjudged-apart d = settled-apart (endingOf Unjudged s) s d
 
   -- another module's frame
-  heard-after : drivesFrame (s .effort .progress) ≡ false → v < 2 → Following r l → (h : Hearing) → hearFrame r 30 v ≡ h → After Unjudged h
+  heard-after : drivesFrame (s .effort .progress) ≡ false → v < 2 → Following longest r l → (h : Hearing) → hearFrame r longest v ≡ h → After Unjudged h
   heard-after d small f Silent e = absurd (invariant-silent r (l .samples) (f .invariant) v e)
   heard-after d small f Follows e = follows-after Unjudged (unjudged-apart d) small f e
   heard-after d small f (Fault code) e = fault-after Unjudged code (unjudged-apart d)
@@ -209,32 +209,32 @@ module _ (s : Service) (r : Reception) (l : Log) (v : ℕ) (m : List ℕ) where
       rw e (unfold commandEnded behind inBody isBody begun quiet atPlace in refl)
 
   -- no frame was under way, and a 0 begins one
-  begins-after : underWay (r .place) ≡ false → l ≡ noLog → v ≡ 0 → Following (receptionJudged m Follows r v) (sampledLog l v m)
-  begins-after u n z = rw (begun-judged u, n, z) (begun-following m)
+  begins-after : longest ≤ capacity → underWay (r .place) ≡ false → l ≡ noLog → v ≡ 0 → Following longest (receptionJudged m Follows r v) (sampledLog l v m)
+  begins-after most u n z = rw (begun-judged u, n, z) (begun-following most m)
 
   silent-judged : underWay (r .place) ≡ false → receptionJudged m Silent r v .place ≡ r .place
   unfolding receptionJudged receptionAfter
   silent-judged u = picked (λ (x : Reception). x .place ≡ r .place) (commandEnded r) (winnerTaken r m) r (λ e. unfold winnerTaken in refl) (λ e. refl)
 
-  quiet-after : drivesFrame (s .effort .progress) ≡ false → underWay (r .place) ≡ false → l ≡ noLog → (line : Line) → After Unjudged (hearQuiet line v)
+  quiet-after : longest ≤ capacity → drivesFrame (s .effort .progress) ≡ false → underWay (r .place) ≡ false → l ≡ noLog → (line : Line) → After Unjudged (hearQuiet line v)
   unfolding hearQuiet
-  quiet-after d u n line =
+  quiet-after most d u n line =
       picked (After Unjudged) (eqb v 0) _ Silent
       (λ e. picked (After Unjudged) (takesStart line) Follows Silent
-      (λ i. record { going = after-going Unjudged s; stage = receiving (unjudged-apart d) (begins-after u n (eqb-true v 0 e)) }) (λ i. silent))
+      (λ i. record { going = after-going Unjudged s; stage = receiving (unjudged-apart d) (begins-after most u n (eqb-true v 0 e)) }) (λ i. silent))
       (λ e. silent)
     where
       silent : After Unjudged Silent
       silent = record { going = after-going Unjudged s; stage = apart (unjudged-apart d) (ap underWay (silent-judged u) ∙ u) }
 
   -- the model's own frame goes on
-  gone : (At (advance Goes (s .effort)) (receptionJudged m Follows r v) (sampledLog l v m)) → After Goes Follows
+  gone : (At longest (advance Goes (s .effort)) (receptionJudged m Follows r v) (sampledLog l v m)) → After Goes Follows
   gone a = record { going = after-going Goes s; stage = rw gone-effort a }
     where
       gone-effort : settledAfter Goes s .effort ≡ advance Goes (s .effort)
       gone-effort = unfold settledAfter endingOf stopped serviceJudged advance atStage betweenAttempts isBetween settled in refl
 
-  gone-driving : Following (receptionJudged m Follows r v) (sampledLog l v m) → Placed (s .effort .frame) (s .effort .progress .at + 1) (receptionJudged m Follows r v)
+  gone-driving : Following longest (receptionJudged m Follows r v) (sampledLog l v m) → Placed (s .effort .frame) (s .effort .progress .at + 1) (receptionJudged m Follows r v)
       → s .effort .progress .at + 1 ≤ 30 + 10 * s .effort .frame .n → After Goes Follows
   gone-driving f p h = gone (unfold advance atStage drivesFrame isDriving in driving refl f p h)
 
@@ -248,11 +248,11 @@ module _ (s : Service) (r : Reception) (l : Log) (v : ℕ) (m : List ℕ) where
   unfolding start
   first-due x = due-level x 0 (omega arith) ∙ level-start x 0 (omega arith)
 
-  opening-goes : s .effort .progress .at ≡ 0 → underWay (r .place) ≡ false → l ≡ noLog → v ≡ due (s .effort .frame) (s .effort .progress .at) → After Goes Follows
-  opening-goes z u n e =
-      gone-driving (begins-after u n (e ∙ ap (due (s .effort .frame)) z ∙ first-due (s .effort .frame))) (rw z (placed-begun (s .effort .frame) u)) (omega arith)
+  opening-goes : longest ≤ capacity → s .effort .progress .at ≡ 0 → underWay (r .place) ≡ false → l ≡ noLog → v ≡ due (s .effort .frame) (s .effort .progress .at) → After Goes Follows
+  opening-goes most z u n e =
+      gone-driving (begins-after most u n (e ∙ ap (due (s .effort .frame)) z ∙ first-due (s .effort .frame))) (rw z (placed-begun (s .effort .frame) u)) (omega arith)
 
-  driving-goes : Own (s .effort .frame) → v < 2 → Following r l → Placed (s .effort .frame) (s .effort .progress .at) r → s .effort .progress .at ≤ 30 + 10 * s .effort .frame .n
+  driving-goes : Own longest (s .effort .frame) → v < 2 → Following longest r l → Placed (s .effort .frame) (s .effort .progress .at) r → s .effort .progress .at ≤ 30 + 10 * s .effort .frame .n
       → v ≡ due (s .effort .frame) (s .effort .progress .at) → After Goes Follows
   driving-goes o small f p h e = go (ltb (s .effort .progress .at) (30 + 10 * s .effort .frame .n)) refl
     where
@@ -263,7 +263,7 @@ module _ (s : Service) (r : Reception) (l : Log) (v : ℕ) (m : List ℕ) where
           let i : k < 30 + 10 * x .n = ltb-true _ _ d in
           let n = own-small x o in
           let a : v ≡ levelAt x k = e ∙ due-level x k i in
-          gone-driving (following-next r l f v small (own-follows x k r v o i n a p) m) (placed-judged m r v (placed-next x k r v o i n small a p)) (omega arith)
+          gone-driving (following-next r l f v small (own-follows longest x k r v o i n a p) m) (placed-judged m r v (placed-next longest x k r v o i n small a p)) (omega arith)
       go false d = closing-goes (omega (arith, ltb-false))
 
   -- or the attempt is lost, fails or ends
@@ -279,19 +279,19 @@ module _ (s : Service) (r : Reception) (l : Log) (v : ℕ) (m : List ℕ) where
   unfolding settledAfter
   done-apart = settled-apart (endingOf Done (serviceJudged Done s)) (serviceJudged Done s) (unfold serviceJudged advance atStage drivesFrame isDriving in refl)
 
-  opening-after : s .effort .progress .at ≡ 0 → underWay (r .place) ≡ false → l ≡ noLog
+  opening-after : longest ≤ capacity → s .effort .progress .at ≡ 0 → underWay (r .place) ≡ false → l ≡ noLog
       → {w : Verdict} → Judged (s .effort .frame) (s .effort .progress .at) v w → After w (hearOwn w)
   unfolding hearOwn
-  opening-after z u n (went e g) = opening-goes z u n e
-  opening-after z u n (lost a b i) = absurd (omega arith)
-  opening-after z u n (broke code g) = fault-after (Failed code) code (failed-apart code)
-  opening-after z u n done = good-after Done done-apart
+  opening-after most z u n (went e g) = opening-goes most z u n e
+  opening-after most z u n (lost a b i) = absurd (omega arith)
+  opening-after most z u n (broke code g) = fault-after (Failed code) code (failed-apart code)
+  opening-after most z u n done = good-after Done done-apart
 
-  driving-after : Own (s .effort .frame) → v < 2 → Following r l → Placed (s .effort .frame) (s .effort .progress .at) r → s .effort .progress .at ≤ 30 + 10 * s .effort .frame .n
+  driving-after : Own longest (s .effort .frame) → v < 2 → Following longest r l → Placed (s .effort .frame) (s .effort .progress .at) r → s .effort .progress .at ≤ 30 + 10 * s .effort .frame .n
       → {w : Verdict} → Judged (s .effort .frame) (s .effort .progress .at) v w → After w (hearOwn w)
   unfolding hearOwn
   driving-after o small f p h (went e g) = driving-goes o small f p h e
-  driving-after o small f p h (lost a b i) = follows-after Lost lost-apart small f (lost-follows (s .effort .frame) (s .effort .progress .at) r v a i p)
+  driving-after o small f p h (lost a b i) = follows-after Lost lost-apart small f (lost-follows longest (s .effort .frame) (s .effort .progress .at) r v a i p)
   driving-after o small f p h (broke code g) = fault-after (Failed code) code (failed-apart code)
   driving-after o small f p h done = good-after Done done-apart
 
@@ -304,10 +304,10 @@ module _ (s : Service) (r : Reception) (l : Log) (v : ℕ) (m : List ℕ) where
 
 -- ---- what the sample is, by what the model is in the frame under way
 
-module _ (k : Core) (l : Log) (v : ℕ) (small : v < 2) (m : List ℕ) (own : drivesFrame (k .service .effort .progress) ≡ true → Own (k .service .effort .frame))
+module _ (k : Core) (l : Log) (v : ℕ) (small : v < 2) (m : List ℕ) (own : drivesFrame (k .service .effort .progress) ≡ true → Own (longestOf k) (k .service .effort .frame))
     (empty : underWay (k .reception .place) ≡ false → l ≡ noLog) where
   abbrev Sampled : Verdict → Hearing → Type 0
-  Sampled w h = After (k .service) (k .reception) l v m w h
+  Sampled w h = After (longestOf k) (k .service) (k .reception) l v m w h
 
   abbrev verdictOf : Verdict
   verdictOf = judge (k .service .effort) v
@@ -320,12 +320,12 @@ module _ (k : Core) (l : Log) (v : ℕ) (small : v < 2) (m : List ℕ) (own : dr
       → Sampled verdictOf (heard k verdictOf v)
   sampled-driving d a = rw (heard-sender k verdictOf v d, judge-driving (k .service .effort) v d) a
 
-  pub sampled-stands : At (k .service .effort) (k .reception) l → Sampled verdictOf (heard k verdictOf v)
-  sampled-stands (apart d u) = sampled-apart d (heard-nobody k Unjudged v d u) (quiet-after (k .service) (k .reception) l v m d u (empty u) (k .line))
+  pub sampled-stands : At (longestOf k) (k .service .effort) (k .reception) l → Sampled verdictOf (heard k verdictOf v)
+  sampled-stands (apart d u) = sampled-apart d (heard-nobody k Unjudged v d u) (quiet-after (longestOf k) (k .service) (k .reception) l v m (omega arith) d u (empty u) (k .line))
   sampled-stands (receiving d f) =
       sampled-apart d (heard-receiver k Unjudged v d (invariant-under-way (k .reception) (l .samples) (f .invariant)))
-      (heard-after (k .service) (k .reception) l v m d small f (hearFrame (k .reception) 30 v) refl)
-  sampled-stands (starting d z u) = sampled-driving d (opening-after (k .service) (k .reception) l v m z u (empty u) (slot-judged (k .service .effort .frame) (k .service .effort .progress .at) v))
+      (heard-after (longestOf k) (k .service) (k .reception) l v m d small f (hearFrame (k .reception) (longestOf k) v) refl)
+  sampled-stands (starting d z u) = sampled-driving d (opening-after (longestOf k) (k .service) (k .reception) l v m (omega arith) z u (empty u) (slot-judged (k .service .effort .frame) (k .service .effort .progress .at) v))
   sampled-stands (driving d f p h) =
-      sampled-driving d (driving-after (k .service) (k .reception) l v m (own d) small f p h (slot-judged (k .service .effort .frame) (k .service .effort .progress .at) v))
-  sampled-stands (closing d b h) = sampled-driving d (closing-after (k .service) (k .reception) l v m h (slot-judged (k .service .effort .frame) (k .service .effort .progress .at) v))
+      sampled-driving d (driving-after (longestOf k) (k .service) (k .reception) l v m (own d) small f p h (slot-judged (k .service .effort .frame) (k .service .effort .progress .at) v))
+  sampled-stands (closing d b h) = sampled-driving d (closing-after (longestOf k) (k .service) (k .reception) l v m h (slot-judged (k .service .effort .frame) (k .service .effort .progress .at) v))

@@ -12,7 +12,7 @@ use Rattle.line.specs.Bits.{pick}
 use Rattle.line.specs.Frame.{Fits}
 use Rattle.line.proofs.Laws.{picked}
 use Rattle.rules.specs.Definitions.Setters.{withActivity, withReport, withService}
-use Rattle.rules.specs.Definitions.Longest.{longestOf}
+use Rattle.rules.specs.Definitions.Longest.{capacity, longestOf}
 use Rattle.rules.specs.Definitions.Registers.{both, lineControl, diagnosisControl, command, interruptReset, transmitControl, retrySetting, autonomous, asksIdle, asksActivation, asksRearbitration, inputLevel, inverted, sampled, selectedInput, invertsReceive}
 use Rattle.rules.specs.Definitions.Channels.{lowestReady}
 use Rattle.rules.specs.Definitions.Reception.{atPlace, quiet, isUnderWay, underWay, behind, inBody, isBody, free, startEnded}
@@ -51,7 +51,7 @@ use Rattle.rules.specs.declared.Event.{Event}
 use Rattle.rules.specs.declared.Event.the-variants.{Reset, Write, Read, Slot}
 
 abbrev StandsIn : Log → Core → Type 0
-StandsIn l k = Stands (k .service) (k .reception) l
+StandsIn l k = Stands (longestOf k) (k .service) (k .reception) l
 
 -- ---- a waiting idle that has come due
 
@@ -156,8 +156,8 @@ start-under-way : (r : Reception) → startEnded r ≡ true → underWay (r .pla
 unfolding underWay
 start-under-way r e = rw (start-taken r e .phase) (unfold isUnderWay in refl)
 
-module _ (l : Log) (s : Service) (r : Reception) (a : Stands s r l) (w : waits (s .effort .progress) ≡ true) where
-  joins : startEnded r ≡ true → Stands (opened s 10) r l
+module _ {longest : ℕ} (l : Log) (s : Service) (r : Reception) (a : Stands longest s r l) (w : waits (s .effort .progress) ≡ true) where
+  joins : startEnded r ≡ true → Stands longest (opened s 10) r l
   joins e = record { going = opened-going s 10 w ∙ a .going; stage = go (a .stage) }
     where
       placed : Placed (s .effort .frame) 10 r
@@ -166,19 +166,19 @@ module _ (l : Log) (s : Service) (r : Reception) (a : Stands s r l) (w : waits (
       driven : drivesFrame (s .effort .progress) ≡ true → ⊥
       driven d = unfold waits drivesFrame in waits-apart (s .effort .progress .stage) w d
 
-      go : At (s .effort) r l → At (opened s 10 .effort) r l
+      go : At longest (s .effort) r l → At longest (opened s 10 .effort) r l
       go (apart d u) = absurd (false≢true (sym u ∙ start-under-way r e))
       go (receiving d f) = unfold opened atStage in driving (unfold drivesFrame isDriving in refl) f placed (omega arith)
       go (starting d z u) = absurd (driven d)
       go (driving d f p h) = absurd (driven d)
       go (closing d b h) = absurd (driven d)
 
-  opens : underWay (r .place) ≡ false → Stands (opened s 0) r l
+  opens : underWay (r .place) ≡ false → Stands longest (opened s 0) r l
   opens u = record { going = opened-going s 0 w ∙ a .going; stage = unfold opened atStage in starting (unfold drivesFrame isDriving in refl) refl u }
 
-started-stands : (l : Log) (s : Service) (autonomous : Bool) (line : Line) (r : Reception) → Stands s r l → Stands (started s autonomous line r) r l
+started-stands : {longest : ℕ} (l : Log) (s : Service) (autonomous : Bool) (line : Line) (r : Reception) → Stands longest s r l → Stands longest (started s autonomous line r) r l
 unfolding started
-started-stands l s autonomous line r a =
+started-stands {longest} l s autonomous line r a =
     picked P (waits (s .effort .progress)) _ s
     (λ w. picked P (startEnded r) (opened s 10) _ (λ e. joins l s r a w e)
     (λ e. picked P (underWay (r .place)) s _ (λ u. a)
@@ -186,7 +186,7 @@ started-stands l s autonomous line r a =
     (λ w. a)
   where
     P : Service → Type 0
-    P x = Stands x r l
+    P x = Stands longest x r l
 
 follows-stands : (l : Log) (m : List ℕ) (k : Core) → StandsIn l k → StandsIn l (followsOn m k)
 unfolding followsOn startMade
@@ -211,14 +211,14 @@ ends-between s x e g = go (betweenAttempts (s .effort .progress)) refl
         absurd (false≢true (sym g ∙ ap isGoing (sym e ∙ h) ∙ (unfold isGoing in refl)))
 
 -- between attempts a service ends, and its frame with it: the model goes on receiving
-given-up : {e : Effort} {r : Reception} {l : Log} → At e r l → betweenAttempts (e .progress) ≡ true → At (resting .effort) r l
+given-up : {longest : ℕ} {e : Effort} {r : Reception} {l : Log} → At longest e r l → betweenAttempts (e .progress) ≡ true → At longest (resting .effort) r l
 given-up (apart d u) b = apart resting-apart u
 given-up (receiving d f) b = receiving resting-apart f
 given-up (starting d z u) b = apart resting-apart u
 given-up (driving d f p h) b = receiving resting-apart f
 given-up (closing d n h) b = absurd (false≢true (sym n ∙ b))
 
-settled-at : (s : Service) {r : Reception} {l : Log} → At (s .effort) r l → (x : Ending) → stopped s ≡ x → At (settled x s .effort) r l
+settled-at : {longest : ℕ} (s : Service) {r : Reception} {l : Log} → At longest (s .effort) r l → (x : Ending) → stopped s ≡ x → At longest (settled x s .effort) r l
 unfolding settled
 settled-at s a Going e = a
 settled-at s a Sent e = given-up a (ends-between s Sent e (unfold isGoing in refl))
@@ -247,7 +247,7 @@ written-reception k a v =
     P : Core → Type 0
     P x = x .reception ≡ k .reception
 
-stopped-stands : (l : Log) (k : Core) (s : Service) → At (s .effort) (k .reception) l → StandsIn l (stoppedCore k s)
+stopped-stands : (l : Log) (k : Core) (s : Service) → At (longestOf k) (s .effort) (k .reception) l → StandsIn l (stoppedCore k s)
 unfolding stoppedCore
 stopped-stands l k s a =
     idle-stands l (withService (withReport k (reportEnded (stopped s) (k .report) s)) (settled (stopped s) s))
@@ -259,7 +259,7 @@ byte-stands l c a v i =
     stopped-stands l (coreWritten (c .core) a v) (serviceAsked (c .core .service) a v)
     (rw (asked-effort (c .core .service) a v, written-reception (c .core) a v) (i .stage))
 
-pub apart-stands : (l : Log) → Stands resting quiet l
+pub apart-stands : {longest : ℕ} (l : Log) → Stands longest resting quiet l
 apart-stands l = record { going = resting-going; stage = apart resting-apart quiet-not }
 
 slept-stands : (l : Log) (k : Core) → StandsIn l (slept k)
@@ -282,7 +282,7 @@ pub record Logs (c : Controller) (l : Log) : Type 0 where
   pub empty : underWay (c .core .reception .place) ≡ false → l ≡ noLog
 
 -- with no frame under way the log is empty
-quiet-at : {e : Effort} {r : Reception} {l : Log} (n : Log) → At e r l → underWay (r .place) ≡ false → At e r n
+quiet-at : {longest : ℕ} {e : Effort} {r : Reception} {l : Log} (n : Log) → At longest e r l → underWay (r .place) ≡ false → At longest e r n
 quiet-at n (apart d u) q = apart d u
 quiet-at {r = r} {l = l} n (receiving d f) q = absurd (false≢true (sym q ∙ invariant-under-way r (l .samples) (f .invariant)))
 quiet-at n (starting d z u) q = starting d z u
@@ -308,18 +308,18 @@ module _ (c : Controller) (l : Log) (e : Event) where
 
 -- ---- the frame of the service
 
-own-in : (s : Stand) (t : Tally) → (isAway s ≡ false → Fits 30 (t .frame) × (t .frame .acknowledge ≡ false)) → drivesFrame (serviceIn s t .effort .progress) ≡ true
-    → Own (serviceIn s t .effort .frame)
+own-in : (s : Stand) (t : Tally) → (isAway s ≡ false → Fits capacity (t .frame) × (t .frame .acknowledge ≡ false)) → drivesFrame (serviceIn s t .effort .progress) ≡ true
+    → Own capacity (serviceIn s t .effort .frame)
 unfolding serviceIn isAway
 own-in away t g d = absurd (false≢true (sym resting-apart ∙ d))
 own-in between t g d = absurd (false≢true (unfold made atStage drivesFrame isDriving in d))
-own-in (opening start) t g d = let f = g refl in record { frame = t .frame; fits = f .0; silent = f .1; same = unfold made in refl }
-own-in (inside start levels) t g d = let f = g refl in record { frame = t .frame; fits = f .0; silent = f .1; same = unfold made in refl }
+own-in (opening start) t g d = let f = g refl in record { most = omega arith; frame = t .frame; fits = f .0; silent = f .1; same = unfold made in refl }
+own-in (inside start levels) t g d = let f = g refl in record { most = omega arith; frame = t .frame; fits = f .0; silent = f .1; same = unfold made in refl }
 
-own-of : (c : Controller) (t : Tally) → Joined c t → drivesFrame (c .core .service .effort .progress) ≡ true → Own (c .core .service .effort .frame)
+own-of : (c : Controller) (t : Tally) → Joined c t → drivesFrame (c .core .service .effort .progress) ≡ true → Own (longestOf (c .core)) (c .core .service .effort .frame)
 own-of c t j d =
     let s : c .core .service ≡ serviceIn (t .stand) t = unfold serviceOf in (j .service) in
-    subst (λ (x : Service). Own (x .effort .frame)) (sym s) (own-in (t .stand) t (j .good .fits) (subst (λ (x : Service). drivesFrame (x .effort .progress) ≡ true) s d))
+    subst (λ (x : Service). Own capacity (x .effort .frame)) (sym s) (own-in (t .stand) t (j .good .fits) (subst (λ (x : Service). drivesFrame (x .effort .progress) ≡ true) s d))
 
 -- ---- a slot
 

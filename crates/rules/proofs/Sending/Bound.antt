@@ -16,6 +16,7 @@ use Rattle.line.specs.Frame.{Frame, Fits, slots, size}
 use Rattle.line.proofs.Laws.{slots-length}
 use Rattle.line.specs.Layout.{partOf, halfOf}
 use Rattle.rules.specs.Definitions.Attempt.{openHalf, arbitrated}
+use Rattle.rules.specs.Definitions.Longest.{capacity}
 use Rattle.rules.specs.Definitions.Registers.{both, command, transmitControl, autonomous, asksRearbitration}
 use Rattle.rules.specs.Definitions.Channels.{base, cher, lowestReady}
 use Rattle.rules.specs.Definitions.Mailbox.{sentFrame}
@@ -48,7 +49,7 @@ pub record Good (t : Tally) : Type 0 where
   pub setting : t .setting ≤ 15
   pub spent : t .slots ≤ (t .lost + t .errors) * size (length (t .frame .bytes)) + taken (t .stand)
   pub stands : Standing (t .stand) (t .frame)
-  pub fits : isAway (t .stand) ≡ false → Fits 30 (t .frame) × (t .frame .acknowledge ≡ false)
+  pub fits : isAway (t .stand) ≡ false → Fits capacity (t .frame) × (t .frame .acknowledge ≡ false)
 
 pub record Bounded (t : Tally) : Type 0 where
   pub errors : t .errors ≤ t .setting + 1

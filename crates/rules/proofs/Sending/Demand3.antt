@@ -13,7 +13,7 @@ use Rattle.rules.specs.Definitions.Registers.{resetReport}
 use Rattle.rules.specs.Definitions.Mailbox.{coded}
 use Rattle.rules.specs.Definitions.Attempt.{levelAt, judge, drivesFrame, isDriving, atStage, isBetween, betweenAttempts}
 use Rattle.rules.specs.Definitions.Service.{roleOf, resting, stopped, endingOf, settled}
-use Rattle.rules.specs.Definitions.Longest.{longestOf}
+use Rattle.rules.specs.Definitions.Longest.{capacity, longestOf}
 use Rattle.rules.specs.Definitions.State.{isActive, resetCore, slept}
 use Rattle.rules.specs.Definitions.Slots.{heard, serviceJudged, ending, memoryJudged, coreJudged, drivesAs, drives, sampleOf, judgedSlot, sampledSlot, activeSlot}
 use Rattle.rules.specs.Definitions.Host.{resetAll, resets, sleeps, coreWritten, serviceAsked, byteWritten, hostWritten}
@@ -57,7 +57,7 @@ drives-as between t k e a b = absurd (false≢true (sym (unfold isBetweenStand i
 drives-as (opening start) t k e a b = unfold drivenIn in sends k t Opening start (unfold isDriving in refl) (unfold serviceIn in e)
 drives-as (inside start levels) t k e a b = unfold drivenIn in sends k t Sending (start + length levels) (unfold isDriving in refl) (unfold serviceIn in e)
 
-frame-level : (s : Stand) (t : Tally) → Fits 30 (t .frame) × (t .frame .acknowledge ≡ false) → drivenIn s t ≡ levelIn s (t .frame)
+frame-level : (s : Stand) (t : Tally) → Fits capacity (t .frame) × (t .frame .acknowledge ≡ false) → drivenIn s t ≡ levelIn s (t .frame)
 unfolding drivenIn levelIn
 frame-level away t f = refl
 frame-level between t f = refl

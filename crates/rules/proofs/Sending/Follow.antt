@@ -93,10 +93,10 @@ module _ (m : List ℕ) (k : Core) where
       same = s ∙ ap (λ (x : Stand). serviceIn x t) (sym e)
 
       go : (a u : Bool) → pick (pick a (pick false false (pick u false true)) false) (pick (serving (choiceOf m (lowestReady m (longestOf k)))) (withService (withReport k (reportSending (k .report) (choiceOf m (lowestReady m (longestOf k))))) (choiceOf m (lowestReady m (longestOf k)))) k) k .service
-          ≡ serviceOf (pick a (pick u t (choiceT m (lowestReady m 30))) t)
+          ≡ serviceOf (pick a (pick u t (choiceT m (lowestReady m (longestOf k)))) t)
       go false u = same
       go true true = same
-      go true false = choice-of (lowestReady m 30) s
+      go true false = choice-of (lowestReady m (longestOf k)) s
 
   -- in a service nothing is chosen
   busy-service : serving (k .service) ≡ true → choiceMade m k .service ≡ k .service

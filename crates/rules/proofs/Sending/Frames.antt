@@ -1,5 +1,5 @@
 -- The fixed frame's bytes carry the frame's slots.
-use Prim.Native.Nat.{ℕ, _+_, _-_, _*_, _/_, _%_}
+use Prim.Native.Nat.{ℕ, _+_, _-_, _*_, _/_, _%_, _≤_}
 use mathlib.Core.Bool.{false}
 use mathlib.Core.List.{List, [], _∷_, _++_, append-assoc}
 use mathlib.Core.Path.{_≡_, ap, _∙_, sym}
@@ -10,6 +10,7 @@ use Rattle.line.specs.Bits.{bits}
 use Rattle.line.specs.Check.{check}
 use Rattle.line.specs.Frame.{Frame, Fits, byteBits, covered, carried, slots}
 use Rattle.line.proofs.Laws.{bits-split, bits-mod, header-bits, byteBits-append, carried-length}
+use Rattle.rules.specs.Definitions.Longest.{capacity}
 use Rattle.rules.specs.Definitions.Mailbox.{coded, codedBytes}
 use Rattle.rules.specs.Definitions.Attempt.{sentSlots, levelAt}
 
@@ -30,9 +31,13 @@ glued a b d c₁ c₂ z h₁ h₂ k e w =
     let x : c₁ ++ (c₂ ++ z) ≡ k ++ (0 ∷ z) = sym (append-assoc c₁ c₂ z) ∙ ap (λ (l : List ℕ). l ++ z) w ∙ append-assoc k (0 ∷ []) z in
     sym (append-assoc a b (d ++ (c₁ ++ (c₂ ++ z)))) ∙ rw (e, x) (simp append-assoc)
 
-module _ (f : Frame) (fits : Fits 30 f) where
+-- a frame of at most `longest` data bytes is one that the state has room for
+pub wider : {longest : ℕ} {f : Frame} → longest ≤ capacity → Fits longest f → Fits capacity f
+wider most f = record { identifier = f .identifier; command = f .command; size = omega (arith, f .size); bytes = f .bytes }
+
+module _ (f : Frame) (fits : Fits capacity f) where
   abbrev pub rest : List ℕ
-  rest = byteBits (replicate (30 - length (f .bytes)) 0)
+  rest = byteBits (replicate (capacity - length (f .bytes)) 0)
 
   pub coded-bits : byteBits (codedBytes f) ≡ carried f ++ (0 ∷ rest)
   unfolding codedBytes byteBits carried covered
@@ -49,5 +54,5 @@ module _ (f : Frame) (fits : Fits 30 f) where
   pub level-coded : f .acknowledge ≡ false → (k : ℕ) → levelAt (coded f) k ≡ getD (slots f) k 1
   unfolding levelAt sentSlots coded slots
   level-coded a k =
-      let n : length (f .bytes) % 31 ≡ length (f .bytes) = omega (arith, fits .size) in
+      let n : length (f .bytes) % (capacity + 1) ≡ length (f .bytes) = omega (arith, fits .size) in
       rw (n, coded-carried, a)

@@ -13,6 +13,7 @@ use Rattle.line.specs.declared.Part.{Part}
 use Rattle.line.specs.declared.Part.the-variants.{Start, Identifier, Command, Data, Check, EndOfData, Acknowledge, EndOfFrame, After}
 use Rattle.line.specs.declared.Half.{Half}
 use Rattle.line.specs.declared.Half.the-variants.{Plain, First, Second}
+use Rattle.rules.specs.Definitions.Longest.{capacity}
 use Rattle.rules.specs.Definitions.Setters.{withSlots, withLost, withErrors, withProgress, withCounters}
 use Rattle.rules.specs.Definitions.Registers.{both, CV, ACKE, FCSE}
 use Rattle.rules.specs.Definitions.Channels.{acknowledgeAsked}
@@ -84,10 +85,10 @@ isDriving Sending = true
 unfoldable pub drivesFrame : Progress → Bool
 drivesFrame p = isDriving (p .stage)
 
--- ---- the fixed frame: "both acknowledge slots recessive". A count above 30, which no state in range has, is taken mod 31
+-- ---- the fixed frame: "both acknowledge slots recessive". The remainder is there for counts that no state in range has
 
 unfoldable pub sentSlots : Coded → List ℕ
-sentSlots x = slotsOf (take (31 + 8 * (x .n % 31)) (byteBits (x .bytes))) false
+sentSlots x = slotsOf (take (31 + 8 * (x .n % (capacity + 1))) (byteBits (x .bytes))) false
 
 unfoldable pub levelAt : Coded → ℕ → ℕ
 levelAt x k = getD (sentSlots x) k 1

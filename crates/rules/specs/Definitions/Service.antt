@@ -7,6 +7,7 @@ use mathlib.Core.List.{List}
 use lib.Dec.{eqb, ltb}
 use lib.ListN.{getD, replicate}
 use Rattle.line.specs.Bits.{pick}
+use Rattle.rules.specs.Definitions.Longest.{capacity}
 use Rattle.rules.specs.Definitions.Setters.{withTe, withTok, withSending, withMessage, withFlags, withFrame, withSetting, withProgress, withChannel, withAbort, withRear, withEffort}
 use Rattle.rules.specs.Definitions.Registers.{both, transmitControl, retrySetting}
 use Rattle.rules.specs.Definitions.Channels.{base, cher, lowestReady}
@@ -42,7 +43,7 @@ resting =
       channel = 0;
       abort = false;
       rear = false;
-      effort = record { frame = record { n = 0; bytes = replicate 34 0 }; setting = 0; progress = atStage Resting 0; counters = noCounts };
+      effort = record { frame = record { n = 0; bytes = replicate (capacity + 4) 0 }; setting = 0; progress = atStage Resting 0; counters = noCounts };
     }
 
 -- ---- the end of a service
