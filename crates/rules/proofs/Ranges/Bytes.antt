@@ -2,10 +2,11 @@
 --   at-below, set-below, .. == reading and writing a row        fits-sent, setting-small == the frame that a channel sends and MR
 --   stored-below, cher-below, .. == what is written to the memory map        buffer-limits, winner-limits, ready-named == who takes a frame, who sends
 use Prim.Native.Nat.{ℕ, zero, suc, _+_, _-_, _%_, _≤_, _<_}
-use mathlib.Core.Bool.{Bool}
+use mathlib.Core.Bool.{Bool, true}
 use mathlib.Core.List.{List}
 use mathlib.Core.Path.{_≡_, refl, ap}
 use native.Mathlib.Omega.{arith}
+use borrow.Author.Tests.{leb-true}
 use lib.Dec.{eqb, leb}
 use lib.ListN.{length, getD, set, take, drop, replicate}
 use Rattle.line.specs.Bits.{Below, none, one}
@@ -13,8 +14,9 @@ use Rattle.line.specs.Frame.{Fits}
 use Rattle.line.proofs.Laws.{picked}
 use Rattle.rules.specs.Definitions.Registers.{transmitControl, readOnly, resetValues, retrySetting}
 use Rattle.rules.specs.Definitions.Longest.{capacity}
-use Rattle.rules.specs.Definitions.Channels.{base, bufferOf, twelve, withCher, withChtx, withChrx, channels, channelAt, lengthOf, noBuffer, ownBuffer, linkedBuffer, nobody, winnerOf, lowest, lowestListening, won, winnerFor, takes, ready, lowestReady}
+use Rattle.rules.specs.Definitions.Channels.{base, bufferOf, twelve, withCher, withChtx, withChrx, channels, channelAt, lengthOf, noBuffer, ownBuffer, linkedBuffer, nobody, winnerOf, lowest, lowestListening, won, winnerFor, takes, asksToSend, sendable, ready, lowestReady}
 use Rattle.rules.specs.Definitions.Mailbox.{mailboxAt, statusByte, laidFrom, stored, mailboxBytes, dataIn, sentFrame, retagged, rowsWritten, markedCher, markedChtx, markedChrx, resetMemory}
+use Rattle.rules.proofs.Logic.{both-true}
 use Rattle.rules.proofs.Ranges.Limits.{WinnerLimits}
 use Rattle.rules.specs.declared.Buffer.{Buffer}
 use Rattle.rules.specs.declared.Choice.{Choice}
@@ -74,6 +76,21 @@ fits-sent m c b =
       size = omega (arith, data-small (bufferOf m c .length));
       bytes = mailbox-below b (bufferOf m c .pointer) 1 (dataIn (bufferOf m c .length));
     }
+
+-- a channel that is ready has no more data bytes than may be sent
+ready-data : (l longest : ℕ) → l ≤ longest + 1 → dataIn l ≤ longest
+unfolding dataIn
+ready-data l longest h = picked (λ x. x ≤ longest) (eqb l 0) 0 ((l - 1) % (capacity + 1)) (λ e. omega arith) (λ e. omega arith)
+
+pub fits-ready : (m : List ℕ) (longest c : ℕ) → Below 256 m → ready m longest c ≡ true → Fits longest (sentFrame m c)
+unfolding ready sendable sentFrame
+fits-ready m longest c b e =
+    let f = fits-sent m c b in
+    let s = both-true (asksToSend (channelAt m c)) _ e in
+    let d = both-true (bufferOf m c .legal) _ (s .1) in
+    let long = mailbox-length m (bufferOf m c .pointer) 1 (dataIn (bufferOf m c .length)) in
+    let small = ready-data (bufferOf m c .length) longest (leb-true (bufferOf m c .length) (longest + 1) (d .1)) in
+    record { identifier = f .identifier; command = f .command; size = omega arith; bytes = f .bytes }
 
 pub setting-small : (m : List ℕ) → Below 256 m → retrySetting (getD m transmitControl 0) ≤ 15
 unfolding retrySetting

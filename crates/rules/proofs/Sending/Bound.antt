@@ -16,12 +16,12 @@ use Rattle.line.specs.Frame.{Frame, Fits, slots, size}
 use Rattle.line.proofs.Laws.{slots-length}
 use Rattle.line.specs.Layout.{partOf, halfOf}
 use Rattle.rules.specs.Definitions.Attempt.{openHalf, arbitrated}
-use Rattle.rules.specs.Definitions.Longest.{capacity}
 use Rattle.rules.specs.Definitions.Registers.{both, command, transmitControl, autonomous, asksRearbitration}
-use Rattle.rules.specs.Definitions.Channels.{base, cher, lowestReady}
+use Rattle.rules.specs.Definitions.Channels.{base, cher, lowestReady, channels, ready}
 use Rattle.rules.specs.Definitions.Mailbox.{sentFrame}
 use Rattle.rules.specs.Definitions.Reception.{free, underWay, startEnded}
-use Rattle.rules.proofs.Ranges.Bytes.{fits-sent, setting-small}
+use Rattle.rules.proofs.Ranges.Bytes.{fits-ready, setting-small}
+use Rattle.rules.proofs.Matching.Lowest.{found}
 use Rattle.rules.specs.declared.Choice.{Choice}
 use Rattle.rules.specs.declared.Choice.the-variants.{Nothing, Lowest}
 use Rattle.rules.specs.declared.Line.{Line}
@@ -44,12 +44,12 @@ Standing between f = Unit {0}
 Standing (opening start) f = Origin start
 Standing (inside start levels) f = Origin start × (start + length levels < size (length (f .bytes))) × (levels ≡ take (length levels) (drop start (slots f)))
 
-pub record Good (t : Tally) : Type 0 where
+pub record Good (longest : ℕ) (t : Tally) : Type 0 where
   pub errors : t .errors ≤ t .setting
   pub setting : t .setting ≤ 15
   pub spent : t .slots ≤ (t .lost + t .errors) * size (length (t .frame .bytes)) + taken (t .stand)
   pub stands : Standing (t .stand) (t .frame)
-  pub fits : isAway (t .stand) ≡ false → Fits capacity (t .frame) × (t .frame .acknowledge ≡ false)
+  pub fits : isAway (t .stand) ≡ false → Fits longest (t .frame) × (t .frame .acknowledge ≡ false)
 
 pub record Bounded (t : Tally) : Type 0 where
   pub errors : t .errors ≤ t .setting + 1
@@ -104,7 +104,7 @@ taken-small between f g = omega arith
 taken-small (opening start) f g = omega arith
 taken-small (inside start levels) f g = let h = g .1 in omega arith
 
-pub bounded-now : (t : Tally) → Good t → Bounded t
+pub bounded-now : {longest : ℕ} (t : Tally) → Good longest t → Bounded t
 bounded-now t g =
     let s : ℕ = size (length (t .frame .bytes)) in
     let k = taken-small (t .stand) (t .frame) (g .stands) in
@@ -134,34 +134,34 @@ module _ (t : Tally) (start l : ℕ) (levels : List ℕ) (g : t .errors ≤ t .s
 
 -- ---- between events
 
-pub good-none : Good none
+pub good-none : {longest : ℕ} → Good longest none
 unfolding none isAway taken
 good-none =
     record { errors = omega arith; setting = omega arith; spent = omega arith; stands = tt; fits = λ e. absurd (false≢true (sym e)) }
 
-pub pick-good : (b : Bool) {x y : Tally} → Good x → Good y → Good (pick b x y)
+pub pick-good : {longest : ℕ} (b : Bool) {x y : Tally} → Good longest x → Good longest y → Good longest (pick b x y)
 pick-good true p q = p
 pick-good false p q = q
 
 -- between attempts a tally that is not given up has at most R errors
-kept-good : (t : Tally) → (ltb (t .setting) (t .errors) ≡ false → Good t) → Good (pick (givenUp t) none t)
+kept-good : {longest : ℕ} (t : Tally) → (ltb (t .setting) (t .errors) ≡ false → Good longest t) → Good longest (pick (givenUp t) none t)
 unfolding givenUp
-kept-good t h = go (ltb (t .setting) (t .errors)) refl (t .abort) (t .rear)
+kept-good {longest} t h = go (ltb (t .setting) (t .errors)) refl (t .abort) (t .rear)
   where
-    go : (a : Bool) → ltb (t .setting) (t .errors) ≡ a → (b c : Bool) → Good (pick (pick a true (pick b true c)) none t)
+    go : (a : Bool) → ltb (t .setting) (t .errors) ≡ a → (b c : Bool) → Good longest (pick (pick a true (pick b true c)) none t)
     go true e b c = good-none
     go false e true c = good-none
     go false e false true = good-none
     go false e false false = h e
 
-ended-good-in : (s : Stand) (t : Tally) → Good t → Good (endedIn s t)
+ended-good-in : {longest : ℕ} (s : Stand) (t : Tally) → Good longest t → Good longest (endedIn s t)
 unfolding endedIn
 ended-good-in away t g = good-none
 ended-good-in between t g = pick-good (givenUp t) good-none g
 ended-good-in (opening start) t g = pick-good (givenUp t) good-none g
 ended-good-in (inside start levels) t g = g
 
-pub ended-good : (t : Tally) → Good t → Good (endedT t)
+pub ended-good : {longest : ℕ} (t : Tally) → Good longest t → Good longest (endedT t)
 unfolding endedT
 ended-good t g = ended-good-in (t .stand) t g
 
@@ -178,9 +178,9 @@ goes-on f k d v e = go (eqb v (dueLevel f k d)) (ltb (k + 1) (size (length (f .b
     go false b h true e = absurd (let z : _≡_ {A = ℕ} 0 1 = cc in omega arith)
     go false b h false e = absurd (let z : _≡_ {A = ℕ} 0 1 = cc in omega arith)
 
-module _ (t : Tally) (g : Good t) (serving : isAway (t .stand) ≡ false) (start l : ℕ) (levels : List ℕ) (o : Origin start) (spent : t .slots ≤ (t .lost + t .errors) * size (length (t .frame .bytes)) + l)
+module _ {longest : ℕ} (t : Tally) (g : Good longest t) (serving : isAway (t .stand) ≡ false) (start l : ℕ) (levels : List ℕ) (o : Origin start) (spent : t .slots ≤ (t .lost + t .errors) * size (length (t .frame .bytes)) + l)
     (room : start + l < size (length (t .frame .bytes))) (long : length levels ≡ l + 1) (led : levels ≡ take (length levels) (drop start (slots (t .frame)))) where
-  judged-good : (w : Verdict) → (w ≡ goes → start + l + 1 < size (length (t .frame .bytes))) → Good (endedT (judgedAs w t start levels))
+  judged-good : (w : Verdict) → (w ≡ goes → start + l + 1 < size (length (t .frame .bytes))) → Good longest (endedT (judgedAs w t start levels))
   unfolding judgedAs spentT endedT endedIn
   judged-good goes h =
       let k = h refl in
@@ -218,8 +218,8 @@ module _ (t : Tally) (g : Good t) (serving : isAway (t .stand) ≡ false) (start
 first-led : (f : Frame) (start : ℕ) → start < size (length (f .bytes)) → getD (slots f) start 1 ∷ [] ≡ take 1 (drop start (slots f))
 first-led f start h = rw (drop-cons (slots f) start 1 (long-enough f start h))
 
-counted-in : (s : Stand) (t : Tally) → t .stand ≡ s → Good t → (d v : ℕ) → (isAway s ≡ false → isBetweenStand s ≡ false → d ≡ levelIn s (t .frame))
-    → Good (endedT (countedIn s t d v)) × Bounded (countedIn s t d v)
+counted-in : {longest : ℕ} (s : Stand) (t : Tally) → t .stand ≡ s → Good longest t → (d v : ℕ) → (isAway s ≡ false → isBetweenStand s ≡ false → d ≡ levelIn s (t .frame))
+    → Good longest (endedT (countedIn s t d v)) × Bounded (countedIn s t d v)
 unfolding countedIn levelIn isAway isBetweenStand
 counted-in away t e g d v q = (ended-good t g, bounded-now t g)
 counted-in between t e g d v q = (ended-good t g, bounded-now t g)
@@ -243,28 +243,31 @@ counted-in (inside start levels) t e g d v q =
       judged-bounded t start (length levels) (levels ++ (d ∷ [])) (g .errors) p (omega (arith, x .1)) (verdict f (start + length levels) d v),
     )
 
-pub counted-good : (t : Tally) → Good t → (d v : ℕ) → (isAway (t .stand) ≡ false → isBetweenStand (t .stand) ≡ false → d ≡ levelIn (t .stand) (t .frame))
-    → Good (endedT (countedT t d v)) × Bounded (countedT t d v)
+pub counted-good : {longest : ℕ} (t : Tally) → Good longest t → (d v : ℕ) → (isAway (t .stand) ≡ false → isBetweenStand (t .stand) ≡ false → d ≡ levelIn (t .stand) (t .frame))
+    → Good longest (endedT (countedT t d v)) × Bounded (countedT t d v)
 unfolding countedT
 counted-good t g d v q = counted-in (t .stand) t refl g d v q
 
 -- ---- choice, start, and what a host write asks
 
-chosen-good : (m : List ℕ) → Below 256 m → (x : Choice) → Good (choiceT m x)
-unfolding choiceT
-chosen-good m b Nothing = good-none
-chosen-good m b (Lowest c) =
+ready-good : (m : List ℕ) (longest c : ℕ) → Below 256 m → ready m longest c ≡ true → Good longest (chosenT m c)
+ready-good m longest c b r =
     unfold chosenT none taken in
-    record { errors = omega arith; setting = setting-small m b; spent = omega arith; stands = tt; fits = λ e. (fits-sent m c b, unfold sentFrame in refl) }
+    record { errors = omega arith; setting = setting-small m b; spent = omega arith; stands = tt; fits = λ d. (fits-ready m longest c b r, unfold sentFrame in refl) }
 
-choose-good-in : (s : Stand) (t : Tally) (m : List ℕ) (longest : ℕ) (a : Bool) (r : Reception) → Below 256 m → Good t → Good (chooseIn s t m longest a r)
+chosen-good : (m : List ℕ) (longest : ℕ) → Below 256 m → (x : Choice) → lowestReady m longest ≡ x → Good longest (choiceT m x)
+unfolding choiceT lowestReady
+chosen-good m longest b Nothing e = good-none
+chosen-good m longest b (Lowest c) e = ready-good m longest c b (found (ready m longest) channels 0 c e .0)
+
+choose-good-in : (s : Stand) (t : Tally) (m : List ℕ) (longest : ℕ) (a : Bool) (r : Reception) → Below 256 m → Good longest t → Good longest (chooseIn s t m longest a r)
 unfolding chooseIn
-choose-good-in away t m longest a r b g = pick-good a (pick-good (underWay (r .place)) g (chosen-good m b (lowestReady m longest))) g
+choose-good-in away t m longest a r b g = pick-good a (pick-good (underWay (r .place)) g (chosen-good m longest b (lowestReady m longest) refl)) g
 choose-good-in between t m longest a r b g = g
 choose-good-in (opening start) t m longest a r b g = g
 choose-good-in (inside start levels) t m longest a r b g = g
 
-opened-good : (t : Tally) (start : ℕ) → Origin start → t .stand ≡ between → Good t → Good (tally.withStand t (opening start))
+opened-good : {longest : ℕ} (t : Tally) (start : ℕ) → Origin start → t .stand ≡ between → Good longest t → Good longest (tally.withStand t (opening start))
 unfolding taken
 opened-good t start o e g =
     record {
@@ -275,7 +278,7 @@ opened-good t start o e g =
       fits = λ x. g .fits (unfold isAway in rw e);
     }
 
-start-good-in : (s : Stand) (t : Tally) (m : List ℕ) (l : Line) (r : Reception) → t .stand ≡ s → Good t → Good (startIn s t m l r)
+start-good-in : {longest : ℕ} (s : Stand) (t : Tally) (m : List ℕ) (l : Line) (r : Reception) → t .stand ≡ s → Good longest t → Good longest (startIn s t m l r)
 unfolding startIn
 start-good-in away t m l r e g = g
 start-good-in between t m l r e g =
@@ -284,26 +287,26 @@ start-good-in between t m l r e g =
 start-good-in (opening start) t m l r e g = g
 start-good-in (inside start levels) t m l r e g = g
 
-pub after-good : (t : Tally) (m : List ℕ) (longest : ℕ) (a : Bool) (l : Line) (r : Reception) → Below 256 m → Good t → Good (startT (chooseT t m longest a r) m l r)
+pub after-good : (t : Tally) (m : List ℕ) (longest : ℕ) (a : Bool) (l : Line) (r : Reception) → Below 256 m → Good longest t → Good longest (startT (chooseT t m longest a r) m l r)
 unfolding startT chooseT
 after-good t m longest a l r b g = start-good-in (chooseIn (t .stand) t m longest a r .stand) (chooseIn (t .stand) t m longest a r) m l r refl (choose-good-in (t .stand) t m longest a r b g)
 
-asking-good : (t : Tally) (a r : Bool) → Good t → Good (tally.withRear (tally.withAbort t a) r)
+asking-good : {longest : ℕ} (t : Tally) (a r : Bool) → Good longest t → Good longest (tally.withRear (tally.withAbort t a) r)
 asking-good t a r g = record { errors = g .errors; setting = g .setting; spent = g .spent; stands = g .stands; fits = g .fits }
 
-asks-good : (t : Tally) (address v : ℕ) → Good t → Good (asks t address v)
+asks-good : {longest : ℕ} (t : Tally) (address v : ℕ) → Good longest t → Good longest (asks t address v)
 unfolding asks
 asks-good t address v g =
     pick-good (eqb address command) (pick-good (asksRearbitration v) (asking-good t (t .abort) true g) g)
     (pick-good (both (eqb address (base (t .channel) + 3)) (cher v)) (asking-good t true (t .rear) g) g)
 
-asked-good-in : (s : Stand) (t : Tally) (address v : ℕ) → Good t → Good (askedIn s t address v)
+asked-good-in : {longest : ℕ} (s : Stand) (t : Tally) (address v : ℕ) → Good longest t → Good longest (askedIn s t address v)
 unfolding askedIn
 asked-good-in away t address v g = g
 asked-good-in between t address v g = asks-good t address v g
 asked-good-in (opening start) t address v g = asks-good t address v g
 asked-good-in (inside start levels) t address v g = asks-good t address v g
 
-pub asked-good : (t : Tally) (address v : ℕ) → Good t → Good (askedT t address v)
+pub asked-good : {longest : ℕ} (t : Tally) (address v : ℕ) → Good longest t → Good longest (askedT t address v)
 unfolding askedT
 asked-good t address v g = asked-good-in (t .stand) t address v g

@@ -41,7 +41,7 @@ use Rattle.rules.specs.declared.Event.the-variants.{Reset, Write, Read, 
 -- controller and tally belong together
 pub record Joined (c : Controller) (t : Tally) : Type 0 where
   pub service : c .core .service ≡ serviceOf t
-  pub good : Good t
+  pub good : Good (longestOf (c .core)) t
 
 -- ---- the level driven
 
@@ -73,13 +73,13 @@ module _ (c : Controller) (t : Tally) (j : Joined c t) where
 
 -- ---- between attempts errors are at most R, so that nothing but a slot exhausts a service
 
-never-exhausted-in : (s : Stand) (t : Tally) → Good t → isExhausted (stopped (serviceIn s t)) ≡ false
+never-exhausted-in : {longest : ℕ} (s : Stand) (t : Tally) → Good longest t → isExhausted (stopped (serviceIn s t)) ≡ false
 never-exhausted-in away t g = unfold serviceIn stopped resting betweenAttempts isBetween atStage isExhausted in refl
 never-exhausted-in between t g = unfold serviceIn in (exhausted-between t Waiting 0 (unfold isBetween in refl) (omega (arith, g .errors, g .setting)) ∙ le-ltb (t .setting) (t .errors) (g .errors))
 never-exhausted-in (opening start) t g = unfold serviceIn in (exhausted-between t Opening start (unfold isBetween in refl) (omega (arith, g .errors, g .setting)) ∙ le-ltb (t .setting) (t .errors) (g .errors))
 never-exhausted-in (inside start levels) t g = unfold serviceIn stopped made betweenAttempts isBetween atStage isExhausted in refl
 
-never-exhausted : (t : Tally) → Good t → isExhausted (stopped (serviceOf t)) ≡ false
+never-exhausted : {longest : ℕ} (t : Tally) → Good longest t → isExhausted (stopped (serviceOf t)) ≡ false
 unfolding serviceOf
 never-exhausted t g = never-exhausted-in (t .stand) t g
 
@@ -150,7 +150,7 @@ module _ (c : Controller) (t : Tally) (j : Joined c t) (v : ℕ) where
       follows-te (memoryJudged (c .memory) (c .core) w h) (coreJudged (memoryJudged (c .memory) (c .core) w h) (c .core) w h v)
       ∙ te-judged (c .core) w h ∙ ap (λ (b : Bool). pick b true (te c)) x
 
-  pub slot-good : Below 256 (sampledSlot c v .memory) → Good (afterSlot (endedT (countedT t (drives (c .core)) v)) (sampledSlot c v))
+  pub slot-good : Below 256 (sampledSlot c v .memory) → Good (longestOf (c .core)) (afterSlot (endedT (countedT t (drives (c .core)) v)) (sampledSlot c v))
   unfolding afterSlot
   slot-good b =
       let x : Controller = sampledSlot c v in
