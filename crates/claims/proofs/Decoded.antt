@@ -11,8 +11,8 @@ use Rattle.rules.specs.Definitions.Longest.{longestOf}
 use Rattle.rules.specs.Statements.Valid.{Valid}
 use Rattle.rules.specs.Definitions.Run.{fresh, next}
 use Rattle.rules.specs.Statements.Receiving as rule
-use Rattle.rules.specs.Statements.Receiving.{Log, noLog, logNext, received, taker, hears, Delivers, DeliversIn, Delivered}
-use Rattle.rules.proofs.Receiving.Delivered.{delivery}
+use Rattle.rules.specs.Statements.Receiving.{Log, noLog, logNext, received, taker, hears, Delivers, DeliversIn, ReceivingOver}
+use Rattle.rules.proofs.Receiving.EveryRun.{delivery}
 use Rattle.rules.specs.declared.Hearing.the-variants.{Good}
 use Rattle.rules.specs.declared.Controller.{Controller}
 use Rattle.rules.specs.declared.Event.{Event}
@@ -61,7 +61,7 @@ decodes-in c l (Write address value) d = tt
 decodes-in c l (Read address) d = tt
 decodes-in c l (Slot levels) d = λ y a q. slot-decodes c l levels (d y a .1 q)
 
-from : (c : Controller) (l : Log) (es : List Event) → Delivered c l es → Decoded c l es
+from : (c : Controller) (l : Log) (es : List Event) → ReceivingOver c l es → Decoded c l es
 from c l [] d = tt
 from c l (e ∷ es) d = (decodes-in c l e (d .1), from (next c e) (logNext c l e) es (d .2))
 

@@ -1,4 +1,4 @@
--- Which channel takes a frame, and where its bytes go: laws of Channels.winnerFor and Delivered.received.
+-- Which channel takes a frame, and where its bytes go: laws of `winnerFor` and `received`.
 use Prim.Native.Nat.{ℕ, zero, suc, _+_, _%_, _≤_, _<_}
 use mathlib.Core.Bool.{Bool, true, false, false≢true}
 use mathlib.Core.List.{List, [], _∷_}

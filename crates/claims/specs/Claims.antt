@@ -32,8 +32,8 @@ use Rattle.rules.specs.Statements.Valid.{low}
 use Rattle.rules.specs.Definitions.State.{inRange, isAsleep}
 use Rattle.rules.specs.Definitions.Run.{fresh, step, next, after}
 use Rattle.rules.specs.Statements.Tally.{none}
-use Rattle.rules.specs.Statements.Sending.{Kept}
-use Rattle.rules.specs.Statements.Receiving.{noLog, received, Delivered}
+use Rattle.rules.specs.Statements.Sending.{SendingOver}
+use Rattle.rules.specs.Statements.Receiving.{noLog, received, ReceivingOver}
 use Rattle.rules.specs.Statements.OwnFrames.{OwnFrames}
 use Rattle.rules.specs.Statements.Interrupts as interrupt
 use Rattle.rules.specs.Statements.Claims as rules
@@ -142,7 +142,7 @@ pub record Receiving : Type 0 where
   pub complete : (longest : ℕ) → longest ≤ capacity → (m s : List ℕ) → Below 2 s → agree.Accepted longest m (0 ∷ s) → agree.receives longest m begun s ≡ true
   -- "Matched and fitting, RAK 1, DRAK 0, check right: the model drives the acknowledge", and no other dominant level where it isn't the sender
   -- (Acknowledges in crates/rules/specs/Statements/Receiving.antt); and a closed run in which it is driven and the frame stored
-  pub acknowledged : (es : List Event) → Delivered fresh noLog es
+  pub acknowledged : (es : List Event) → ReceivingOver fresh noLog es
   pub closed : rules.Receiving
   -- "The model's own frame .. is not stored, touches no receiving channel and is never acknowledged by the model" (crates/rules/specs/Statements/OwnFrames.antt)
   pub own : OwnFrames
@@ -155,8 +155,8 @@ pub record Sending : Type 0 where
   -- "each event gets the controller that the last one left"
   pub chained : (c : Controller) (es : List Event) (e : Event) → after c (es ++ (e ∷ [])) ≡ step (after c es) e .next
   -- for every list of events: one fixed frame of which each attempt drives an opening part, at most R + 1 errors, TE exactly at R + 1, at most
-  -- (C + R + 1) × (60 + 10n) slots, by the tally's own count (Kept and Claim in crates/rules/specs/Statements/Sending.antt, the tally in Tally.antt)
-  pub kept : (es : List Event) → Kept fresh none es
+  -- (C + R + 1) × (60 + 10n) slots, by the tally's own count (SendingOver and Claim in crates/rules/specs/Statements/Sending.antt, the tally in Tally.antt)
+  pub kept : (es : List Event) → SendingOver fresh none es
   -- closed runs with their figures for C, errors and slots: sent, exhausted, lost twice, joined, aborted
   pub runs : rules.Runs
 

@@ -8,6 +8,10 @@ pub both-true : (a b : Bool) → both a b ≡ true → (a ≡ true) × (b ≡ tr
 both-true true b e = (refl, e)
 both-true false b e = absurd (false≢true e)
 
+pub both-false : (a : Bool) → both a false ≡ false
+both-false true = refl
+both-false false = refl
+
 pub clash : {A : Type 0} {b : Bool} → b ≡ false → b ≡ true → A
 clash e h = absurd (false≢true (sym e ∙ h))
 

@@ -8,4 +8,4 @@ pub mod InvariantLaws
 pub mod OwnAttempt
 pub mod Log
 pub mod LogSteps
-pub mod Delivered
+pub mod EveryRun

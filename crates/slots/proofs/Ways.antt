@@ -1,6 +1,6 @@
 -- Where nothing begins, nothing follows; the level from its parts.
 use Prim.Native.Nat.{ℕ}
-use mathlib.Core.Bool.{Bool, true, false, false≢true}
+use mathlib.Core.Bool.{Bool, true, false, false≢true, not}
 use mathlib.Core.List.{List}
 use mathlib.Core.Path.{_≡_, refl, sym}
 use lib.ListN.{getD}
@@ -14,6 +14,7 @@ use Rattle.rules.specs.Definitions.State.{idleDue, isActive, serving}
 use Rattle.rules.specs.Definitions.Slots.{chooses, choiceMade, startMade, followsOn, drives, drivesAs}
 use Rattle.rules.specs.Definitions.Run.{accept, answered}
 use Rattle.rules.specs.Definitions.Answers.{controller}
+use Rattle.rules.proofs.Logic.{both-false}
 use Rattle.rules.specs.declared.Role.{Role}
 use Rattle.rules.specs.declared.Role.the-variants.{Nobody, Receiver, Sender}
 use Rattle.rules.specs.declared.Core.{Core}
@@ -49,7 +50,7 @@ no-idle k e = rw (waits-not k e)
 
 no-choice : (m : List ℕ) (k : Core) → begins k ≡ false → choiceMade m k ≡ k
 unfolding choiceMade chooses
-no-choice m k e = rw (under-way k e, pick-same (serving (k .service)) false, pick-same (isActive (k .activity .mode)) false)
+no-choice m k e = rw (under-way k e, both-false (not (serving (k .service))), both-false (isActive (k .activity .mode)))
 
 no-start : (m : List ℕ) (k : Core) → begins k ≡ false → startMade m k ≡ k
 unfolding startMade started

@@ -1,4 +1,4 @@
-use Rattle.rules.proofs.Receiving.Delivered.{delivery}
+use Rattle.rules.proofs.Receiving.EveryRun.{delivery}
 use Rattle.rules.proofs.Runs.{driven, stored}
 use Rattle.rules.proofs.OwnFrames.EveryRun.{own-frames}
 use Rattle.rules.proofs.Interrupts.Raised.{interrupts}

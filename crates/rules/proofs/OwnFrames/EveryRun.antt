@@ -2,7 +2,7 @@
 --   slot-cases, slot-sampled == the controller after a slot
 --   own-after, own-every == the claim for every reached controller, and for every list of events
 use Prim.Native.Nat.{ℕ, zero, suc, _+_, _-_, _*_, _/_, _%_, _≤_, _<_}
-use mathlib.Core.Bool.{Bool, true, false, false≢true}
+use mathlib.Core.Bool.{Bool, true, false, false≢true, not}
 use mathlib.Core.List.{List, [], _∷_}
 use mathlib.Core.Path.{_≡_, refl, ap, _∙_, sym, subst}
 use native.Mathlib.Omega.{arith}
@@ -17,7 +17,7 @@ use Rattle.line.proofs.Levels.{level-at}
 use Rattle.line.specs.Layout.{partOf, levelIn, levelOf}
 use Rattle.line.specs.declared.Part.the-variants as part
 use Rattle.rules.specs.Definitions.Longest.{capacity}
-use Rattle.rules.specs.Definitions.Registers.{command, transmitControl, autonomous, asksRearbitration}
+use Rattle.rules.specs.Definitions.Registers.{both, command, transmitControl, autonomous, asksRearbitration}
 use Rattle.rules.specs.Definitions.Channels.{base, withCher, withChtx}
 use Rattle.rules.specs.Definitions.Mailbox.{coded, markedCher, markedChtx}
 use Rattle.rules.specs.Definitions.Reception.{quiet, atPlace, underWay, isUnderWay, isBody, inBody, behind, commandEnded, winnerTaken}
@@ -42,7 +42,7 @@ use Rattle.rules.proofs.Sending.Demand3.{Joined, joined-next}
 use Rattle.rules.proofs.Logic.{left}
 use Rattle.rules.proofs.Roles.{role-sender, heard-sender}
 use Rattle.rules.proofs.Ranges.Reach.{fine-fresh, fine-next}
-use Rattle.rules.specs.Statements.OwnFrames.{sends, statusAt, Ended, whole, error, Own, Left, on, gone, Between, OwnIn, Owned, OwnFrames}
+use Rattle.rules.specs.Statements.OwnFrames.{sends, statusAt, Ended, whole, error, Own, Left, on, gone, Between, OwnIn, OwnOver, OwnFrames}
 use Rattle.rules.specs.declared.Stage.{Stage}
 use Rattle.rules.specs.declared.Stage.the-variants.{Opening, Sending}
 use Rattle.rules.specs.declared.Reception.{Reception}
@@ -209,7 +209,7 @@ module _ (m : List ℕ) (k : Core) (e : k .service .effort .progress .stage ≡ 
   unfolding chooses serving inService isServing
   busy = rw e (go (isActive (k .activity .mode)))
     where
-      go : (a : Bool) → pick a (pick true false (pick (underWay (k .reception .place)) false true)) false ≡ false
+      go : (a : Bool) → both a (both (not true) (not (underWay (k .reception .place)))) ≡ false
       go true = refl
       go false = refl
 
@@ -385,7 +385,7 @@ own-in c t j (Slot l) = own c l t j
 
 -- ---- every list of events
 
-from : (c : Controller) (t : Tally) → Joined c t → Fine c → (es : List Event) → Owned c es
+from : (c : Controller) (t : Tally) → Joined c t → Fine c → (es : List Event) → OwnOver c es
 from c t j f [] = tt
 from c t j f (e ∷ es) = (own-in c t j e, from (next c e) (nextT c t e) (joined-next c t j f e (step-of c e)) (fine-next c e f) es)
 
@@ -397,7 +397,7 @@ at-end c t j f (e ∷ es) l = at-end (next c e) (nextT c t e) (joined-next c t j
 joined-fresh : Joined fresh none
 joined-fresh = record { service = unfold fresh resetAll resetCore serviceOf serviceIn none in refl; good = good-none }
 
-pub own-every : (es : List Event) → Owned fresh es
+pub own-every : (es : List Event) → OwnOver fresh es
 own-every es = from fresh none joined-fresh fine-fresh es
 
 pub own-after : (es : List Event) (l : ℕ) → Own (after fresh es) l

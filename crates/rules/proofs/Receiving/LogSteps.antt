@@ -1,7 +1,7 @@
 -- Controller and log over every event: idle, choice and start, a host write, a slot.
 --   Logs == they belong together: next-logs
 use Prim.Native.Nat.{ℕ, _-_, _/_, _%_, _<_}
-use mathlib.Core.Bool.{Bool, true, false, false≢true}
+use mathlib.Core.Bool.{Bool, true, false, false≢true, not}
 use mathlib.Core.List.{List}
 use mathlib.Core.Path.{_≡_, refl, ap, _∙_, sym, subst}
 use native.Mathlib.Omega.{arith}
@@ -88,7 +88,7 @@ unfolding choiceOf
 chosen-going m Nothing = resting-going
 chosen-going m (Lowest c) = unfold chosen resting atStage stopped betweenAttempts isBetween exhausted noCounts in rw (le-ltb (retrySetting (getD m transmitControl 0)) 0 (omega arith))
 
-free-to-choose : (a b u : Bool) → pick a (pick b false (pick u false true)) false ≡ true → u ≡ false
+free-to-choose : (a b u : Bool) → both a (both (not b) (not u)) ≡ true → u ≡ false
 free-to-choose true true u e = absurd (false≢true e)
 free-to-choose true false true e = absurd (false≢true e)
 free-to-choose true false false e = refl

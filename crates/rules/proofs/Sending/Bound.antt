@@ -15,7 +15,6 @@ use Rattle.line.specs.Bits.{pick, Below}
 use Rattle.line.specs.Frame.{Frame, Fits, slots, size}
 use Rattle.line.proofs.Laws.{slots-length}
 use Rattle.line.specs.Layout.{partOf, halfOf}
-use Rattle.rules.specs.Definitions.Attempt.{openHalf, arbitrated}
 use Rattle.rules.specs.Definitions.Registers.{both, command, transmitControl, autonomous, asksRearbitration}
 use Rattle.rules.specs.Definitions.Channels.{base, cher, lowestReady, channels, ready}
 use Rattle.rules.specs.Definitions.Mailbox.{sentFrame}
@@ -27,7 +26,7 @@ use Rattle.rules.specs.declared.Choice.the-variants.{Nothing, Lowest}
 use Rattle.rules.specs.declared.Line.{Line}
 use Rattle.rules.specs.declared.Reception.{Reception}
 use Rattle.rules.specs.Statements.Tally as tally
-use Rattle.rules.specs.Statements.Tally.{Stand, away, between, opening, inside, Tally, none, Verdict, goes, contended, failed, sent, dueLevel, verdict, spentT, judgedAs, countedIn, countedT, givenUp, endedIn, endedT, chosenT, choiceT, chooseIn, chooseT, startIn, startT, isAway, asks, askedIn, askedT}
+use Rattle.rules.specs.Statements.Tally.{Stand, away, between, opening, inside, Tally, none, Verdict, goes, contended, failed, sent, dueLevel, verdict, spentT, judgedAs, countedIn, countedT, givenUp, endedIn, endedT, chosenT, choiceT, chooseIn, chooseT, startIn, startT, isAway, asks, askedIn, askedT, openHalfT, arbitratedT}
 use Rattle.rules.proofs.Sending.Join.{isBetweenStand}
 use Rattle.rules.specs.Statements.Sending.{Opens, Origin, own, joined, Drives}
 
@@ -170,7 +169,7 @@ ended-good t g = ended-good-in (t .stand) t g
 -- an attempt goes on only before its last slot
 goes-on : (f : Frame) (k d v : ℕ) → verdict f k d v ≡ goes → k + 1 < size (length (f .bytes))
 unfolding verdict
-goes-on f k d v e = go (eqb v (dueLevel f k d)) (ltb (k + 1) (size (length (f .bytes)))) refl (both (both (eqb d 1) (openHalf (halfOf (length (f .bytes)) k))) (arbitrated (partOf (length (f .bytes)) k))) e
+goes-on f k d v e = go (eqb v (dueLevel f k d)) (ltb (k + 1) (size (length (f .bytes)))) refl (both (both (eqb d 1) (openHalfT (halfOf (length (f .bytes)) k))) (arbitratedT (partOf (length (f .bytes)) k))) e
   where
     go : (a b : Bool) → ltb (k + 1) (size (length (f .bytes))) ≡ b → (c : Bool) → pick a (pick b goes sent) (pick c contended failed) ≡ goes → k + 1 < size (length (f .bytes))
     go true true h c e = ltb-true (k + 1) (size (length (f .bytes))) h

@@ -24,7 +24,7 @@ use Rattle.rules.proofs.Sending.Follow.{isExhausted, te-judged, follows
 use Rattle.rules.proofs.Sending.Raised.{exhausted-between, exhausted-is}
 use Rattle.rules.proofs.Ranges.Reach.{fine-fresh, fine-next}
 use Rattle.rules.specs.Statements.Tally.{Stand, away, between, opening, inside, Tally, none, countedT, endedT, askedT, isAway}
-use Rattle.rules.specs.Statements.Sending.{accepted, seenIn, followIn, afterSlot, seenT, nextT, Drives, InSlot, te, Claim, Kept}
+use Rattle.rules.specs.Statements.Sending.{accepted, seenIn, followIn, afterSlot, seenT, nextT, Drives, InSlot, te, Claim, SendingOver}
 use Rattle.rules.proofs.Sending.Frames.{level-coded}
 use Rattle.rules.proofs.Steps.{Step, refusal, reset, wrote, gave, went, rested, step-of, refused-next, refused-seen, refused-tally, refused-not, accepted-next, accepted-seen, accepted-tally}
 use Rattle.rules.proofs.Sending.Bound.{Good, levelIn, drives-in, bounded-now, good-none, ended-good, counted-good, after-good, asked-good}
@@ -244,7 +244,7 @@ module _ (c : Controller) (t : Tally) (j : Joined c t) (f : Fine c) where
 
 -- ---- every list of events
 
-from : (c : Controller) (t : Tally) → Joined c t → Fine c → (es : List Event) → Kept c t es
+from : (c : Controller) (t : Tally) → Joined c t → Fine c → (es : List Event) → SendingOver c t es
 from c t j f [] = tt
 from c t j f (e ∷ es) = (claim c t j f e (step-of c e), from (next c e) (nextT c t e) (joined-next c t j f e (step-of c e)) (fine-next c e f) es)
 
@@ -252,5 +252,5 @@ joined-fresh : Joined fresh none
 joined-fresh = record { service = unfold fresh resetAll resetCore serviceOf serviceIn none in refl; good = good-none }
 
 -- Demand 3, entire
-pub demand-3 : (es : List Event) → Kept fresh none es
+pub demand-3 : (es : List Event) → SendingOver fresh none es
 demand-3 es = from fresh none joined-fresh fine-fresh es

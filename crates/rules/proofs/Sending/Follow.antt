@@ -1,6 +1,6 @@
 -- A slot and a host write of the controller, part by part: what they do to the service and to TE.
 use Prim.Native.Nat.{ℕ, _/_, _%_}
-use mathlib.Core.Bool.{Bool, true, false}
+use mathlib.Core.Bool.{Bool, true, false, not}
 use mathlib.Core.List.{List}
 use mathlib.Core.Path.{_≡_, refl, ap, _∙_, sym}
 use lib.Dec.{eqb}
@@ -9,7 +9,7 @@ use Rattle.line.specs.Bits.{pick}
 use Rattle.rules.proofs.Logic.{left}
 use Rattle.rules.specs.Definitions.Setters.{withActivity, withReport, withLine, withService}
 use Rattle.rules.specs.Definitions.Longest.{longestOf}
-use Rattle.rules.specs.Definitions.Registers.{command, interruptReset, transmitControl, autonomous, unless, cleared, asksIdle, asksActivation}
+use Rattle.rules.specs.Definitions.Registers.{both, command, interruptReset, transmitControl, autonomous, unless, cleared, asksIdle, asksActivation}
 use Rattle.rules.specs.Definitions.Channels.{lowestReady, acknowledgeAsked}
 use Rattle.rules.specs.Definitions.Reception.{underWay, unsettled}
 use Rattle.rules.specs.Definitions.Delivery.{receiveError, reportStored, reportHeard, reportDelivered}
@@ -78,7 +78,7 @@ module _ (m : List ℕ) (k : Core) where
   choice-of Nothing e = unfold choiceOf choiceT serving resting inService isServing atStage in (e ∙ unfold choiceOf in choose-is m Nothing)
   choice-of (Lowest c) e = unfold choiceOf chosen serving inService isServing atStage in choose-is m (Lowest c)
 
-  chooses-as : (b : Bool) → serving (k .service) ≡ b → chooses k ≡ pick (isActive (k .activity .mode)) (pick b false (pick (underWay (k .reception .place)) false true)) false
+  chooses-as : (b : Bool) → serving (k .service) ≡ b → chooses k ≡ both (isActive (k .activity .mode)) (both (not b) (not (underWay (k .reception .place))))
   unfolding chooses
   chooses-as b e = rw e
 
@@ -92,7 +92,7 @@ module _ (m : List ℕ) (k : Core) where
       same : k .service ≡ serviceOf t
       same = s ∙ ap (λ (x : Stand). serviceIn x t) (sym e)
 
-      go : (a u : Bool) → pick (pick a (pick false false (pick u false true)) false) (pick (serving (choiceOf m (lowestReady m (longestOf k)))) (withService (withReport k (reportSending (k .report) (choiceOf m (lowestReady m (longestOf k))))) (choiceOf m (lowestReady m (longestOf k)))) k) k .service
+      go : (a u : Bool) → pick (both a (both (not false) (not u))) (pick (serving (choiceOf m (lowestReady m (longestOf k)))) (withService (withReport k (reportSending (k .report) (choiceOf m (lowestReady m (longestOf k))))) (choiceOf m (lowestReady m (longestOf k)))) k) k .service
           ≡ serviceOf (pick a (pick u t (choiceT m (lowestReady m (longestOf k)))) t)
       go false u = same
       go true true = same
@@ -103,7 +103,7 @@ module _ (m : List ℕ) (k : Core) where
   unfolding choiceMade
   busy-service e = rw (chooses-as true e) (go (isActive (k .activity .mode)))
     where
-      go : (a : Bool) → pick (pick a (pick true false (pick (underWay (k .reception .place)) false true)) false) (pick (serving (choose m (longestOf k))) (withService (withReport k (reportSending (k .report) (choose m (longestOf k)))) (choose m (longestOf k))) k) k .service ≡ k .service
+      go : (a : Bool) → pick (both a (both (not true) (not (underWay (k .reception .place))))) (pick (serving (choose m (longestOf k))) (withService (withReport k (reportSending (k .report) (choose m (longestOf k)))) (choose m (longestOf k))) k) k .service ≡ k .service
       go true = refl
       go false = refl
 

@@ -25,7 +25,7 @@ use Rattle.rules.specs.Definitions.Slots.{serviceJudged}
 use Rattle.rules.specs.Definitions.Host.{rearCommanded, serviceAsked}
 use Rattle.rules.proofs.Judged.{Judged, went, lost, broke, done, slot-judged}
 use Rattle.rules.specs.Statements.Tally as tally
-use Rattle.rules.specs.Statements.Tally.{Stand, away, between, opening, inside, Tally, none, goes, contended, failed, sent, asksAcknowledge, dueLevel, verdict, spentT, judgedAs, countedIn, countedT, givenUp, endedIn, endedT, chosenT, choiceT, startIn, startT, isAway, asks, askedIn, askedT}
+use Rattle.rules.specs.Statements.Tally.{Stand, away, between, opening, inside, Tally, none, goes, contended, failed, sent, asksAcknowledge, dueLevel, verdict, spentT, judgedAs, countedIn, countedT, givenUp, endedIn, endedT, chosenT, choiceT, startIn, startT, isAway, asks, askedIn, askedT, openHalfT, arbitratedT}
 use Rattle.rules.specs.declared.Choice.{Choice}
 use Rattle.rules.specs.declared.Choice.the-variants.{Nothing, Lowest}
 use Rattle.rules.specs.declared.Line.{Line}
@@ -89,6 +89,25 @@ difference-kind p o = go (both o (arbitrated p)) (both o (inCheck p)) (inAcknowl
     go false false true = unfold kind in refl
     go false false false = unfold kind in refl
 
+-- the tally's own tests of a slot are those of the rules
+open-same : (h : Half) → openHalf h ≡ openHalfT h
+unfolding openHalf openHalfT
+open-same Plain = refl
+open-same First = refl
+open-same Second = refl
+
+arbitrated-same : (p : Part) → arbitrated p ≡ arbitratedT p
+unfolding arbitrated arbitratedT
+arbitrated-same part.Start = refl
+arbitrated-same part.Identifier = refl
+arbitrated-same part.Command = refl
+arbitrated-same part.Data = refl
+arbitrated-same part.Check = refl
+arbitrated-same part.EndOfData = refl
+arbitrated-same part.Acknowledge = refl
+arbitrated-same part.EndOfFrame = refl
+arbitrated-same part.After = refl
+
 asks-same : (f : Frame) → acknowledgeAsked (getD (codedBytes f) 1 0) ≡ asksAcknowledge f
 unfolding acknowledgeAsked asksAcknowledge codedBytes
 asks-same f = let e : (f .identifier % 16 * 16 + f .command) / 4 % 2 ≡ f .command / 4 % 2 = omega arith in rw e
@@ -104,10 +123,13 @@ kind-same f k v =
     rw (due-same f k) (go (eqb v (dueLevel f k (levelAt (coded f) k))) (ltb (k + 1) (size (length (f .bytes)))))
   where
     go : (a b : Bool) → kind (pick a (pick b Goes Done) (difference (length (f .bytes)) k (levelAt (coded f) k)))
-        ≡ pick a (pick b goes sent) (pick (both (both (eqb (levelAt (coded f) k) 1) (openHalf (halfOf (length (f .bytes)) k))) (arbitrated (partOf (length (f .bytes)) k))) contended failed)
+        ≡ pick a (pick b goes sent) (pick (both (both (eqb (levelAt (coded f) k) 1) (openHalfT (halfOf (length (f .bytes)) k))) (arbitratedT (partOf (length (f .bytes)) k))) contended failed)
     go true true = unfold kind in refl
     go true false = unfold kind in refl
-    go false b = unfold difference in difference-kind (partOf (length (f .bytes)) k) (both (eqb (levelAt (coded f) k) 1) (openHalf (halfOf (length (f .bytes)) k)))
+    go false b =
+        unfold difference in
+        rw (← (open-same (halfOf (length (f .bytes)) k)), ← (arbitrated-same (partOf (length (f .bytes)) k)))
+        (difference-kind (partOf (length (f .bytes)) k) (both (eqb (levelAt (coded f) k) 1) (openHalf (halfOf (length (f .bytes)) k))))
 
 -- ---- counts
 
@@ -326,7 +348,7 @@ module _ (t : Tally) (stage : Stage) (at : ℕ) (serving : isServing stage ≡ t
       go (eqb address command) (asksRearbitration v) (inService (made t stage at .effort .progress)) (unfold made inService atStage in serving) (eqb address (base (t .channel) + 3)) (cher v)
     where
       go : (x y s : Bool) → s ≡ true → (z u : Bool)
-          → pick x (pick y (rearAsked (made t stage at)) (made t stage at)) (pick (pick s (pick z u false) false) (abortAsked (made t stage at)) (made t stage at))
+          → pick x (pick y (rearAsked (made t stage at)) (made t stage at)) (pick (both s (both z u)) (abortAsked (made t stage at)) (made t stage at))
           ≡ serviceOf (pick x (pick y (tally.withRear t true) t) (pick (both z u) (tally.withAbort t true) t))
       go true true s e z u = rear-made
       go true false s e z u = same-made
@@ -339,7 +361,7 @@ asked-away : (address v : ℕ) → serviceAsked resting address v ≡ resting
 unfolding serviceAsked rearCommanded aborts rearAsked resting atStage inService isServing
 asked-away address v = go (eqb address command) (asksRearbitration v)
   where
-    go : (x y : Bool) → pick x (pick y (rearAsked resting) resting) (pick (pick (inService (resting .effort .progress)) (pick (eqb address (base (resting .channel) + 3)) (cher v) false) false) (abortAsked resting) resting) ≡ resting
+    go : (x y : Bool) → pick x (pick y (rearAsked resting) resting) (pick (both (inService (resting .effort .progress)) (both (eqb address (base (resting .channel) + 3)) (cher v))) (abortAsked resting) resting) ≡ resting
     go true true = refl
     go true false = refl
     go false y = refl

@@ -77,7 +77,7 @@ memoryEnded Exhausted m c = markedChtx (markedCher m c) c
 memoryEnded Aborted m c = markedChtx m c
 memoryEnded Rearbitrated m c = m
 
--- "Retry fields show the smaller of errors and R"
+-- "Retry fields show the smaller of errors and R"; errors below R are below 256, and the remainder is there for other numbers only
 unfoldable pub retriesOf : Service → Retries
 retriesOf s =
     record {
@@ -142,7 +142,7 @@ rearAsked s = withRear s (inService (s .effort .progress))
 -- "Writing CHER 1 to the channel (abort)"
 unfoldable pub aborts : Service → ℕ → ℕ → Bool
 aborts s address value =
-    pick (inService (s .effort .progress)) (pick (eqb address (base (s .channel) + 3)) (cher value) false) false
+    both (inService (s .effort .progress)) (both (eqb address (base (s .channel) + 3)) (cher value))
 
 -- ---- the model's own frame, for the line: it goes on, is another's once lost, ends in an error, or ends well
 

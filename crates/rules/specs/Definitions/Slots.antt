@@ -3,13 +3,13 @@
 --   roleIn == what the model is in the frame under way        heard, delivers, ending == what a sample is        memoryJudged, coreJudged == memory map and state with its effects
 --   idleDue, choiceMade, startMade == what follows        drives == the level for the next slot
 use Prim.Native.Nat.{ℕ}
-use mathlib.Core.Bool.{Bool, true, false}
+use mathlib.Core.Bool.{Bool, not}
 use mathlib.Core.List.{List}
 use lib.ListN.{getD}
 use Rattle.line.specs.Bits.{pick}
 use Rattle.rules.specs.Definitions.Setters.{withEffort, withReport, withLine, withReception, withService}
 use Rattle.rules.specs.Definitions.Longest.{longestOf}
-use Rattle.rules.specs.Definitions.Registers.{lineControl, transmitControl, diagnosisControl, autonomous, sampled}
+use Rattle.rules.specs.Definitions.Registers.{both, lineControl, transmitControl, diagnosisControl, autonomous, sampled}
 use Rattle.rules.specs.Definitions.Reception.{underWay, commandEnded, winnerTaken}
 use Rattle.rules.specs.Definitions.Hearing.{lineAfter, receptionAfter, hearFrame, hearQuiet, receiverLevel}
 use Rattle.rules.specs.Definitions.Delivery.{deliveryOf, memoryDelivered, reportHeard, reportDelivered}
@@ -82,7 +82,7 @@ coreJudged m k w h v =
 
 -- "if active with no frame under way and no service"
 unfoldable pub chooses : Core → Bool
-chooses k = pick (isActive (k .activity .mode)) (pick (serving (k .service)) false (pick (underWay (k .reception .place)) false true)) false
+chooses k = both (isActive (k .activity .mode)) (both (not (serving (k .service))) (not (underWay (k .reception .place))))
 
 -- the service of the channel chosen, and 0x05
 unfoldable pub choiceMade : List ℕ → Core → Core

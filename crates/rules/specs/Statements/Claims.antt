@@ -13,8 +13,8 @@ use Rattle.rules.specs.Definitions.Slots.{drives}
 use Rattle.rules.specs.Definitions.Host.{resetAll, byteRead}
 use Rattle.rules.specs.Definitions.Run.{fresh, step, after}
 use Rattle.rules.specs.Statements.Tally.{none}
-use Rattle.rules.specs.Statements.Sending.{Kept}
-use Rattle.rules.specs.Statements.Receiving.{noLog, Delivered}
+use Rattle.rules.specs.Statements.Sending.{SendingOver}
+use Rattle.rules.specs.Statements.Receiving.{noLog, ReceivingOver}
 use Rattle.rules.specs.Statements.Runs.{Counts, seenOver, setUp, ones, levels, sent, echoed, overdriven, ran, listening, asking, Stored}
 use Rattle.rules.specs.declared.Choice.the-variants.{Lowest}
 use Rattle.rules.specs.declared.Mode.the-variants.{Active}
@@ -47,11 +47,11 @@ pub record Matching : Type 0 where
 
 -- demand 3, for every list of events from a fresh controller
 pub record Sending : Type 0 where
-  pub kept : (es : List Event) → Kept fresh none es
+  pub kept : (es : List Event) → SendingOver fresh none es
 
 -- what is delivered and acknowledged, for every list of events from a fresh controller
 pub record Receiving : Type 0 where
-  pub kept : (es : List Event) → Delivered fresh noLog es
+  pub kept : (es : List Event) → ReceivingOver fresh noLog es
   -- a closed run: the acknowledge is driven, and the frame is stored
   pub driven : drives (ran fresh (listening ++ (ones 12 ++ levels (take 71 (slots asking)))) .core) ≡ 0
   pub stored : Stored (ran fresh (listening ++ (ones 12 ++ levels (slots asking))) .memory)

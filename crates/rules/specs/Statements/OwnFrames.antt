@@ -2,7 +2,7 @@
 -- acknowledged by the model").
 --   sends == the model drives a level of its own frame in the slot to come        verdictIn == what the slot's sample is for the attempt
 --   statusAt == the one byte of the map that a service marks        Own == what holds of a slot, Between of any other event
---   Owned == what holds of a list of events, from a controller on        OwnFrames == the claim over every run
+--   OwnOver == what holds of a list of events, from a controller on        OwnFrames == the claim over every run
 use Prim.Native.Nat.{ℕ, _+_, _*_, _/_, _%_, _≤_}
 use mathlib.Core.Bool.{Bool, true, false}
 use mathlib.Core.List.{List, [], _∷_}
@@ -78,11 +78,11 @@ OwnIn c (Read address) = Between c (Read address)
 OwnIn c (Slot levels) = Own c levels
 
 -- one claim about the list
-abbrev pub Owned : Controller → List Event → Type 0
-Owned c [] = Unit {0}
-Owned c (e ∷ es) = OwnIn c e × Owned (next c e) es
+abbrev pub OwnOver : Controller → List Event → Type 0
+OwnOver c [] = Unit {0}
+OwnOver c (e ∷ es) = OwnIn c e × OwnOver (next c e) es
 
 -- the claim, entire
 pub record OwnFrames : Type 0 where
-  pub every : (es : List Event) → Owned fresh es
+  pub every : (es : List Event) → OwnOver fresh es
   pub reached : (es : List Event) (levels : ℕ) → Own (after fresh es) levels

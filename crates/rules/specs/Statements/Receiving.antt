@@ -2,7 +2,7 @@
 --   received, errorAfter == what a frame does to the memory map, and to 0x07        Log, logNext == the samples since the frame's start, and the memory map that names who takes it
 --   Heeds == what holds of a slot, whoever sends        Delivers == what holds of a slot of another module's frame
 --   Acknowledges == what holds where the model drives an acknowledge
---   Delivered == what holds of a list of events, from a controller and a log on
+--   ReceivingOver == what holds of a list of events, from a controller and a log on
 use Prim.Native.Nat.{ℕ, _+_, _*_, _≤_}
 use mathlib.Core.Bool.{true}
 use mathlib.Core.List.{List, [], _∷_, _++_}
@@ -144,6 +144,6 @@ pub record Acknowledges (c : Controller) (l : Log) : Type 0 where
 
 -- ---- every event
 
-abbrev pub Delivered : Controller → Log → List Event → Type 0
-Delivered c l [] = Acknowledges c l
-Delivered c l (e ∷ es) = Acknowledges c l × DeliversIn c l e × Delivered (next c e) (logNext c l e) es
+abbrev pub ReceivingOver : Controller → Log → List Event → Type 0
+ReceivingOver c l [] = Acknowledges c l
+ReceivingOver c l (e ∷ es) = Acknowledges c l × DeliversIn c l e × ReceivingOver (next c e) (logNext c l e) es

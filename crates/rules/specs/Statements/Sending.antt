@@ -1,6 +1,6 @@
 -- Demand 3, entire: one claim about the list of events.
 --   seenT == the tally once the event's sample is judged, before the choice        nextT == the tally after the event
---   Claim == what holds of an event        Kept == what holds of a list of events, from a controller and a tally on
+--   Claim == what holds of an event        SendingOver == what holds of a list of events, from a controller and a tally on
 use Prim.Native.Nat.{ℕ, _+_, _*_, _≤_, _%_}
 use mathlib.Core.Bool.{Bool, true, false}
 use mathlib.Core.Path.{_≡_}
@@ -89,6 +89,6 @@ pub record Claim (c : Controller) (t : Tally) (e : Event) : Type 0 where
   pub raised : seenT c t e .errors ≡ seenT c t e .setting + 1 → te (next c e) ≡ true
   pub only : te c ≡ false → te (next c e) ≡ true → seenT c t e .errors ≡ seenT c t e .setting + 1
 
-abbrev pub Kept : Controller → Tally → List Event → Type 0
-Kept c t [] = Unit {0}
-Kept c t (e ∷ es) = Claim c t e × Kept (next c e) (nextT c t e) es
+abbrev pub SendingOver : Controller → Tally → List Event → Type 0
+SendingOver c t [] = Unit {0}
+SendingOver c t (e ∷ es) = Claim c t e × SendingOver (next c e) (nextT c t e) es

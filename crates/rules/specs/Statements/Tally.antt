@@ -11,10 +11,13 @@ use lib.ListN.{length, getD}
 use Rattle.line.specs.Bits.{pick}
 use Rattle.line.specs.Frame.{Frame, size}
 use Rattle.line.specs.Layout.{partOf, halfOf}
+use Rattle.line.specs.declared.Part.{Part}
+use Rattle.line.specs.declared.Part.the-variants.{Start, Identifier, Command, Data, Check, EndOfData, Acknowledge, EndOfFrame, After}
+use Rattle.line.specs.declared.Half.{Half}
+use Rattle.line.specs.declared.Half.the-variants.{Plain, First, Second}
 use Rattle.rules.specs.Definitions.Registers.{both, command, transmitControl, retrySetting, autonomous, asksRearbitration}
 use Rattle.rules.specs.Definitions.Channels.{base, cher, lowestReady}
 use Rattle.rules.specs.Definitions.Mailbox.{sentFrame}
-use Rattle.rules.specs.Definitions.Attempt.{openHalf, arbitrated}
 use Rattle.rules.specs.Definitions.Reception.{free, underWay, startEnded}
 use Rattle.rules.specs.declared.Choice.{Choice}
 use Rattle.rules.specs.declared.Choice.the-variants.{Nothing, Lowest}
@@ -97,11 +100,29 @@ asksAcknowledge f = eqb (f .command / 4 % 2) 1
 unfoldable pub dueLevel : Frame → ℕ → ℕ → ℕ
 dueLevel f k d = pick (eqb k (51 + 10 * length (f .bytes))) (pick (asksAcknowledge f) 0 d) d
 
+-- "a plain bit or first half of a pair"
+unfoldable pub openHalfT : Half → Bool
+openHalfT Plain = true
+openHalfT First = true
+openHalfT Second = false
+
+-- "of identifier, command or data"
+unfoldable pub arbitratedT : Part → Bool
+arbitratedT Start = false
+arbitratedT Identifier = true
+arbitratedT Command = true
+arbitratedT Data = true
+arbitratedT Check = false
+arbitratedT EndOfData = false
+arbitratedT Acknowledge = false
+arbitratedT EndOfFrame = false
+arbitratedT After = false
+
 -- "Recessive driven and dominant sampled .. is lost contention"; "Every other difference is an error"
 unfoldable pub verdict : Frame → ℕ → ℕ → ℕ → Verdict
 verdict f k d v =
     pick (eqb v (dueLevel f k d)) (pick (ltb (k + 1) (size (length (f .bytes)))) goes sent)
-    (pick (both (both (eqb d 1) (openHalf (halfOf (length (f .bytes)) k))) (arbitrated (partOf (length (f .bytes)) k))) contended failed)
+    (pick (both (both (eqb d 1) (openHalfT (halfOf (length (f .bytes)) k))) (arbitratedT (partOf (length (f .bytes)) k))) contended failed)
 
 -- ---- a slot
 

@@ -40,7 +40,7 @@ use Rattle.rules.proofs.Ranges.Limits.{Fine}
 use Rattle.rules.proofs.Ranges.Reach.{fine-fresh, fine-next}
 use Rattle.rules.proofs.Sending.Bound.{good-none}
 use Rattle.rules.proofs.Sending.Demand3.{Joined, joined-next}
-use Rattle.rules.specs.Statements.Receiving.{Log, noLog, storedFrame, received, errorAfter, logNext, taker, hears, Taken, Delivers, role, Heeds, DeliversIn, Owing, Acknowledges, Delivered}
+use Rattle.rules.specs.Statements.Receiving.{Log, noLog, storedFrame, received, errorAfter, logNext, taker, hears, Taken, Delivers, role, Heeds, DeliversIn, Owing, Acknowledges, ReceivingOver}
 use Rattle.rules.proofs.Roles.{receiver-is, judge-apart, heard-receiver}
 use Rattle.rules.proofs.Receiving.Log.{At, Following, apart, driving, none-wins, receiving, starting}
 use Rattle.rules.proofs.Receiving.Log as at
@@ -408,7 +408,7 @@ delivers-in c t l i (Slot levels) = λ y a. (heeds c t levels y a, delivers-slot
 
 -- ---- every list of events
 
-from : (c : Controller) (t : Tally) (l : Log) → Logs c l → Joined c t → Fine c → (es : List Event) → Delivered c l es
+from : (c : Controller) (t : Tally) (l : Log) → Logs c l → Joined c t → Fine c → (es : List Event) → ReceivingOver c l es
 from c t l i j f [] = acknowledged c l i
 from c t l i j f (e ∷ es) =
     (acknowledged c l i, delivers-in c t l i e, from (next c e) (nextT c t e) (logNext c l e) (next-logs c t l i j e (step-of c e)) (joined-next c t j f e (step-of c e)) (fine-next c e f) es)
@@ -420,5 +420,5 @@ logs-fresh : Logs fresh noLog
 logs-fresh = record { stands = unfold fresh resetAll resetCore in apart-stands noLog; empty = λ e. refl }
 
 -- every list of events from a fresh controller
-pub delivery : (es : List Event) → Delivered fresh noLog es
+pub delivery : (es : List Event) → ReceivingOver fresh noLog es
 delivery es = from fresh none noLog logs-fresh joined-fresh fine-fresh es
