@@ -205,9 +205,10 @@ fn byte_written(m: &mut [u8; 256], k: Core, address: usize, v: u8) -> Core
     ensures { λ r. ⌜ answers.controller (now (m .exit)) r ≡ rule.byteWritten (answers.controller (now (m .entry)) k) address v ⌝ }
 {
     let s = service_asked(k.service, address, v);
+    let t = core_written(k, address, v);
     keep_byte(m, address, v);
     ending::end_memory(m, ending::stopped(s), k.service.channel);
-    stopped_core(core_written(k, address, v), s)
+    stopped_core(t, s)
 }
 
 // Reset, by pin or GRES.
