@@ -161,7 +161,7 @@ judged-report Done x s l f = l
 
 pub ended-report : (y : Ending) (x : Report) (s : Service) → ReportLimits x → Spent s → ReportLimits (reportEnded y x s)
 unfolding reportEnded
-ended-report Going x s l f = l
+ended-report Going x s l f = record { sending = l .sending; message = l .message; error = l .error }
 ended-report Sent x s l f = record { sending = l .sending; message = retries-limits s f; error = l .error }
 ended-report Exhausted x s l f = record { sending = l .sending; message = retries-limits s f; error = l .error }
 ended-report Aborted x s l f = l
