@@ -1,5 +1,5 @@
 pub mod Bits
-pub mod Runs
+pub mod ClosedRuns
 pub mod Resets
 pub mod Matching
 pub mod Steps

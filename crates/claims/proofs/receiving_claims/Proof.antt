@@ -1,5 +1,5 @@
 use Rattle.rules.proofs.Receiving.EveryRun.{delivery}
-use Rattle.rules.proofs.Runs.{driven, stored}
+use Rattle.rules.proofs.ClosedRuns.{driven, stored}
 use Rattle.rules.proofs.OwnFrames.EveryRun.{own-frames}
 use Rattle.rules.proofs.Interrupts.Raised.{interrupts}
 use Rattle.claims.proofs.Decoded.{every-run}

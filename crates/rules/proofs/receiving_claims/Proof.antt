@@ -1,5 +1,5 @@
 use Rattle.rules.proofs.Receiving.EveryRun.{delivery}
-use Rattle.rules.proofs.Runs.{driven, stored}
+use Rattle.rules.proofs.ClosedRuns.{driven, stored}
 use Rattle.rules.proofs.receiving_claims.Statement.{statement}
 use Rattle.rules.proofs.receiving_claims.Tie as tie
 

@@ -1,4 +1,4 @@
-use Rattle.rules.proofs.Runs.{runs}
+use Rattle.rules.proofs.ClosedRuns.{runs}
 use Rattle.rules.proofs.run_claims.Statement.{statement}
 use Rattle.rules.proofs.run_claims.Tie as tie
 

@@ -3,7 +3,7 @@ use Prim.Native.Nat.{ℕ, _≤_, _<_}
 use mathlib.Core.Bool.{Bool, true, false}
 use mathlib.Core.List.{List, [], _∷_, _++_}
 use mathlib.Core.Path.{_≡_}
-use lib.ListN.{length, take}
+use lib.ListN.{getD, length, take}
 use Rattle.line.specs.Frame.{slots}
 use Rattle.rules.specs.Definitions.Registers.{resetValues}
 use Rattle.rules.specs.Definitions.Channels.{matches, lowest}
@@ -67,4 +67,11 @@ pub record Runs : Type 0 where
   pub frame-kept : drives (ran fresh (setUp ++ (ones 5 ++ (Write 0x10 0x02 ∷ (ones 7 ++ levels (take 10 (slots sent)))))) .core) ≡ 1
   pub setting-kept : ran fresh (setUp ++ (ones 5 ++ (Write 0x01 0x03 ∷ (ones 7 ++ (Slot 1 ∷ []))))) .core .report .flags .te ≡ false
   pub loss-counted : ran fresh (setUp ++ (ones 12 ++ overdriven)) .core .service .effort .counters .slots .0 ≡ 11
+  -- a loss is no error; the third error of R = 2 raises TE and ends the service, so that the next channel is chosen; an attempt that joins drives the identifier first;
+  -- an abort asked in an attempt ends the service with it: CHTx stands beside CHER
+  pub loss-no-error : ran fresh (setUp ++ (ones 12 ++ overdriven)) .core .service .effort .counters .errors .0 ≡ 0
+  pub third-error : ran fresh (setUp ++ (ones 12 ++ (Slot 1 ∷ (ones 12 ++ (Slot 1 ∷ (ones 12 ++ (Slot 1 ∷ []))))))) .core .report .flags .te ≡ true
+  pub given-up : ran fresh (setUp ++ (ones 12 ++ (Slot 1 ∷ (ones 12 ++ (Slot 1 ∷ (ones 12 ++ (Slot 1 ∷ []))))))) .core .service .channel ≡ 1
+  pub joined : drives (ran fresh (setUp ++ (Write 0x01 0x22 ∷ (ones 12 ++ levels (take 10 (slots sent))))) .core) ≡ 1
+  pub aborted : getD (ran fresh (setUp ++ (ones 12 ++ (Slot 0 ∷ Slot 0 ∷ Slot 0 ∷ Write 0x13 0x0C ∷ Slot 1 ∷ []))) .memory) 0x13 0 ≡ 0x0E
   pub refused : (step (ran fresh setUp) (Slot 9) .next) .core .activity .mode ≡ Active

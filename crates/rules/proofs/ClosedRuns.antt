@@ -3,7 +3,7 @@ use mathlib.Core.Bool.{true, false}
 use mathlib.Core.List.{[], _∷_, _++_}
 use mathlib.Core.Path.{_≡_, refl}
 use lib.Dec.{leb}
-use lib.ListN.{take}
+use lib.ListN.{getD, take}
 use Rattle.line.specs.Frame.{slots}
 use Rattle.rules.specs.Definitions.Channels.{lowest, matches}
 use Rattle.rules.specs.Definitions.Slots.{drives}
@@ -79,6 +79,30 @@ pub loss-counted : ran fresh (setUp ++ (ones 12 ++ overdriven)) .core .service .
 unfolding ran setUp ones overdriven levels sent
 loss-counted = refl
 
+-- a loss is no error
+pub loss-no-error : ran fresh (setUp ++ (ones 12 ++ overdriven)) .core .service .effort .counters .errors .0 ≡ 0
+unfolding ran setUp ones overdriven levels sent
+loss-no-error = refl
+
+-- R = 2: the third error raises TE, and the next channel is chosen in that slot
+pub third-error : ran fresh (setUp ++ (ones 12 ++ (Slot 1 ∷ (ones 12 ++ (Slot 1 ∷ (ones 12 ++ (Slot 1 ∷ []))))))) .core .report .flags .te ≡ true
+unfolding ran setUp ones
+third-error = refl
+
+pub given-up : ran fresh (setUp ++ (ones 12 ++ (Slot 1 ∷ (ones 12 ++ (Slot 1 ∷ (ones 12 ++ (Slot 1 ∷ []))))))) .core .service .channel ≡ 1
+unfolding ran setUp ones
+given-up = refl
+
+-- MT 0: behind another module's start sequence the identifier's first slot is driven
+pub joined : drives (ran fresh (setUp ++ (Write 0x01 0x22 ∷ (ones 12 ++ levels (take 10 (slots sent))))) .core) ≡ 1
+unfolding ran setUp ones levels sent drives
+joined = refl
+
+-- an abort asked in the third slot; the attempt fails in the fourth, and the service ends with CHTx
+pub aborted : getD (ran fresh (setUp ++ (ones 12 ++ (Slot 0 ∷ Slot 0 ∷ Slot 0 ∷ Write 0x13 0x0C ∷ Slot 1 ∷ []))) .memory) 0x13 0 ≡ 0x0E
+unfolding ran setUp ones
+aborted = refl
+
 pub runs : Runs
 runs =
     record {
@@ -90,5 +114,10 @@ runs =
       frame-kept = frame-kept;
       setting-kept = setting-kept;
       loss-counted = loss-counted;
+      loss-no-error = loss-no-error;
+      third-error = third-error;
+      given-up = given-up;
+      joined = joined;
+      aborted = aborted;
       refused = refused;
     }
