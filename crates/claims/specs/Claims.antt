@@ -148,6 +148,8 @@ pub record Receiving : Type 0 where
   pub own : OwnFrames
   -- "The interrupt line is asserted when status and enable share a one"; what raises each of the six bits, and nothing else does (crates/rules/specs/Statements/Interrupts.antt)
   pub interrupts : interrupt.Interrupts
+  -- "Reset values": a host reads each of them after a reset, by pin or GRES
+  pub resets : rules.Resets
 
 -- ---- demand 3
 

@@ -1,4 +1,4 @@
--- Closed runs, computed. Those from `lowest-of-many` on each come out otherwise under one wrong rule.
+-- Closed runs, computed. Those from `lowest-of-many` on stand against wrong rules: each comes out otherwise under one of them at least.
 use mathlib.Core.Bool.{true, false}
 use mathlib.Core.List.{[], _∷_, _++_}
 use mathlib.Core.Path.{_≡_, refl}

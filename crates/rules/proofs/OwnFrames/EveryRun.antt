@@ -1,4 +1,4 @@
--- Own.antt over every list of events.
+-- The claim on own frames, over every list of events.
 --   slot-cases, slot-sampled == the controller after a slot
 --   own-after, own-every == the claim for every reached controller, and for every list of events
 use Prim.Native.Nat.{ℕ, zero, suc, _+_, _-_, _*_, _/_, _%_, _≤_, _<_}
