@@ -12,11 +12,11 @@ judge-spec =
     (λ c κs. tt)
     (λ c κs. tt)
     (λ c.
-      let a = c .before .before .before .before .before .before .args in
-      let e = a .k .service .effort in
-      let t = c .before .before .trial .ensures in
-      let x = c .before .before .before .role-of .ensures in
-      let w = verdict-is e (a .k .reception .place) (a .v) in (
-        x,
-        (rw (t .0, x) w, (rw (t .1, x, w), rw (c .heard .ensures, t .0, x, w))),
-      )))
+    let a = c .before .before .before .before .before .before .args in
+    let e = a .k .service .effort in
+    let t = c .before .before .trial .ensures in
+    let x = c .before .before .before .role-of .ensures in
+    let w = verdict-is e (a .k .reception .place) (a .v) in (
+      x,
+      (rw (t .0, x) w, (rw (t .1, x, w), rw (c .heard .ensures, t .0, x, w))),
+    )))

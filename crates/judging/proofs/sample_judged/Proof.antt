@@ -13,8 +13,8 @@ sample-judged-spec =
     (λ c κs. tt)
     (λ c κs. tt)
     (λ c.
-      let j = c .before .before .before .before .before .before .before .before .before .judge .ensures in
-      let y = c .before .before .before .before .before .take-effect .ensures in (
-        y .0 ∙ rw (j .1 .0, j .1 .1 .1),
-        rw (c .reception-judged .ensures, c .before .before .line-after .ensures, y .1 .0, y .1 .1, y .0, j .1 .0, j .1 .1 .1),
-      )))
+    let j = c .before .before .before .before .before .before .before .before .before .judge .ensures in
+    let y = c .before .before .before .before .before .take-effect .ensures in (
+      y .0 ∙ rw (j .1 .0, j .1 .1 .1),
+      rw (c .reception-judged .ensures, c .before .before .line-after .ensures, y .1 .0, y .1 .1, y .0, j .1 .0, j .1 .1 .1),
+    )))

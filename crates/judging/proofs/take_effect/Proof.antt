@@ -17,10 +17,10 @@ take-effect-spec =
     (λ c κs. tt)
     (λ c κs. tt)
     (λ c.
-      let x = c .before .before .before .before .before .before .before .before .before .before .pre .0 in
-      let s = c .before .before .before .before .before .before .before .before .before .before .pre .1 in
-      let end = c .before .before .before .before .before .before .before .before .before .ending-of .ensures in
-      let d = c .before .before .before .before .before .before .delivers .ensures in (
-        rw (c .before .before .end-memory .ensures, c .before .before .before .before .deliver .ensures, d, end, x, s),
-        (rw (c .before .report-after .ensures, d, end, x, s), rw (c .settled .ensures, end, s)),
-      )))
+    let x = c .before .before .before .before .before .before .before .before .before .before .pre .0 in
+    let s = c .before .before .before .before .before .before .before .before .before .before .pre .1 in
+    let end = c .before .before .before .before .before .before .before .before .before .ending-of .ensures in
+    let d = c .before .before .before .before .before .before .delivers .ensures in (
+      rw (c .before .before .end-memory .ensures, c .before .before .before .before .deliver .ensures, d, end, x, s),
+      (rw (c .before .report-after .ensures, d, end, x, s), rw (c .settled .ensures, end, s)),
+    )))

@@ -94,15 +94,15 @@ module _ {longest : ℕ} (r : Reception) (s : List ℕ) (v : ℕ) (small : v < 2
       over l =
           record {
             holds = unfold InvariantIn entered atPlace in
-          record {
-            most = t .most;
-            within = omega arith;
-            nibbles = omega (arith, t .nibbles);
-            long = rw (t .bytes) refl;
-            below = rw (t .bytes) (zeros-below 34);
-            padded = rw (t .bytes, t .nibbles) (272, zeros-bits 34);
-            samples = next ∙ rw (l, t .nibbles) (unfold start lineCode bits in refl);
-          };
+                record {
+                  most = t .most;
+                  within = omega arith;
+                  nibbles = omega (arith, t .nibbles);
+                  long = rw (t .bytes) refl;
+                  below = rw (t .bytes) (zeros-below 34);
+                  padded = rw (t .bytes, t .nibbles) (272, zeros-bits 34);
+                  samples = next ∙ rw (l, t .nibbles) (unfold start lineCode bits in refl);
+                };
           }
 
   -- ---- a plain bit or a first half
@@ -112,17 +112,19 @@ module _ {longest : ℕ} (r : Reception) (s : List ℕ) (v : ℕ) (small : v < 2
   bit-step p t l =
       let code : List ℕ = lineCode (take (4 * r .nibbles) (byteBits (r .bytes))) in
       let old : List ℕ = bits (r .place .at) (r .bits) in
-      record { holds = rw p
-      (record {
-        most = t .most;
-        within = omega arith;
-        nibbles = t .nibbles;
-        long = t .long;
-        below = t .below;
-        padded = t .padded;
-        samples = rw (t .samples, bit-added (r .place .at) (r .bits) v (omega arith) small)
-            (append-assoc start (code ++ old) (v ∷ []) ∙ ap (λ (x : List ℕ). start ++ x) (append-assoc code old (v ∷ [])));
-      }) }
+      record {
+        holds = rw p
+            (record {
+              most = t .most;
+              within = omega arith;
+              nibbles = t .nibbles;
+              long = t .long;
+              below = t .below;
+              padded = t .padded;
+              samples = rw (t .samples, bit-added (r .place .at) (r .bits) v (omega arith) small)
+                  (append-assoc start (code ++ old) (v ∷ []) ∙ ap (λ (x : List ℕ). start ++ x) (append-assoc code old (v ∷ [])));
+            });
+      }
 
   -- ---- a second half unlike the first
 
@@ -132,16 +134,18 @@ module _ {longest : ℕ} (r : Reception) (s : List ℕ) (v : ℕ) (small : v < 2
       let before : List ℕ = take (4 * r .nibbles) (byteBits (r .bytes)) in
       let four : length before % 4 ≡ 0 = rw (nibbles-length (r .bytes) (r .nibbles) (t .long) (omega (arith, t .most, t .nibbles))) (omega arith) in
       let code : lineCode (before ++ bits 4 (r .bits)) ≡ lineCode before ++ (bits 4 (r .bits) ++ (v ∷ [])) = code-append before (bits 4 (r .bits)) four ∙ ap (λ (x : List ℕ). lineCode before ++ x) (nibble-slots (r .bits) v small d) in
-      record { holds = rw (lt-ltb (r .nibbles) (mostNibbles capacity) (omega (arith, t .most)))
-      (record {
-        most = t .most;
-        within = omega arith;
-        nibbles = omega arith;
-        long = nibble-long (r .bytes) (r .nibbles) (r .bits) (t .long);
-        below = nibble-below (t .below) (r .nibbles) (r .bits);
-        padded = rw (nibble-added (r .bytes) (r .nibbles) (r .bits) (t .long) (omega (arith, t .most))) (nibble-padded (r .bytes) (r .nibbles) (r .bits) (t .long) (omega (arith, t .most)) (t .padded));
-        samples = rw (t .samples, l, nibble-added (r .bytes) (r .nibbles) (r .bits) (t .long) (omega (arith, t .most)), code) (unfold bits in simp (append-assoc, append-nil));
-      }) }
+      record {
+        holds = rw (lt-ltb (r .nibbles) (mostNibbles capacity) (omega (arith, t .most)))
+            (record {
+              most = t .most;
+              within = omega arith;
+              nibbles = omega arith;
+              long = nibble-long (r .bytes) (r .nibbles) (r .bits) (t .long);
+              below = nibble-below (t .below) (r .nibbles) (r .bits);
+              padded = rw (nibble-added (r .bytes) (r .nibbles) (r .bits) (t .long) (omega (arith, t .most))) (nibble-padded (r .bytes) (r .nibbles) (r .bits) (t .long) (omega (arith, t .most)) (t .padded));
+              samples = rw (t .samples, l, nibble-added (r .bytes) (r .nibbles) (r .bits) (t .long) (omega (arith, t .most)), code) (unfold bits in simp (append-assoc, append-nil));
+            });
+      }
 
   -- ---- the end of data
 
@@ -182,19 +186,19 @@ module _ {longest : ℕ} (r : Reception) (s : List ℕ) (v : ℕ) (small : v < 2
       let second : getD (withNibble (r .bytes) (r .nibbles) (r .bits)) 1 0 ≡ getD (r .bytes) 1 0 = ap (λ (x : List ℕ). getD x 1 0) coded ∙ unfold codedBytes low in sym (held-low r (t .long) (t .below) (t .most) n true) in
       record {
         holds =
-      record {
-        within = omega arith;
-        held = record {
-          most = t .most;
-          fits = rw same f;
-          long = nibble-long (r .bytes) (r .nibbles) (r .bits) (t .long);
-          below = nibble-below (t .below) (r .nibbles) (r .bits);
-          count = n;
-          coded = rw same coded;
-          request = rw second q;
-        };
-        samples = rw (same, t .samples, l, code, bits-split 3 1 (r .bits), last, z) (unfold bits endOfData in simp append-assoc);
-      };
+            record {
+              within = omega arith;
+              held = record {
+                most = t .most;
+                fits = rw same f;
+                long = nibble-long (r .bytes) (r .nibbles) (r .bits) (t .long);
+                below = nibble-below (t .below) (r .nibbles) (r .bits);
+                count = n;
+                coded = rw same coded;
+                request = rw second q;
+              };
+              samples = rw (same, t .samples, l, code, bits-split 3 1 (r .bits), last, z) (unfold bits endOfData in simp append-assoc);
+            };
       }
 
   body-step : r .place .phase ≡ Body → InBody longest r s → hearBody r longest v ≡ Follows → Invariant longest (followBody r v) (s ++ (v ∷ []))
@@ -246,12 +250,14 @@ module _ {longest : ℕ} (r : Reception) (s : List ℕ) (v : ℕ) (small : v < 2
   first-step p t l =
       let code : List ℕ = lineCode (carried (frameHeld r true)) in
       let old : List ℕ = bits (r .place .at) (r .bits) in
-      record { holds = rw p
-      (record {
-        within = omega arith;
-        held = record { most = t .held .most; fits = t .held .fits; long = t .held .long; below = t .held .below; count = t .held .count; coded = t .held .coded; request = t .held .request };
-        samples = rw (t .samples, bit-added (r .place .at) (r .bits) v (omega arith) small) (simp append-assoc);
-      }) }
+      record {
+        holds = rw p
+            (record {
+              within = omega arith;
+              held = record { most = t .held .most; fits = t .held .fits; long = t .held .long; below = t .held .below; count = t .held .count; coded = t .held .coded; request = t .held .request };
+              samples = rw (t .samples, bit-added (r .place .at) (r .bits) v (omega arith) small) (simp append-assoc);
+            });
+      }
 
 module _ {longest : ℕ} (r : Reception) (c : Carried longest r) (a : Bool) where
   pub owes-held : owes (r .winner) (frameHeld r a) ≡ acknowledges r
@@ -281,17 +287,17 @@ module _ {longest : ℕ} (r : Reception) (s : List ℕ) (v : ℕ) (small : v < 2
       let c = t .held in
       record {
         holds =
-      record {
-        within = omega arith;
-        held = record { most = c .most; fits = c .fits; long = c .long; below = c .below; count = c .count; coded = c .coded; request = c .request };
-        acknowledged = a;
-        valid = record {
-          request = held-request r c a;
-          asked = λ d. rw (← (held-low r (c .long) (c .below) (c .most) (c .count) a)) (asked d);
-          driven = rw (owes-held r c a) drove;
-        };
-        samples = rw (t .samples, l, ← e) (simp (append-assoc, append-nil));
-      };
+            record {
+              within = omega arith;
+              held = record { most = c .most; fits = c .fits; long = c .long; below = c .below; count = c .count; coded = c .coded; request = c .request };
+              acknowledged = a;
+              valid = record {
+                request = held-request r c a;
+                asked = λ d. rw (← (held-low r (c .long) (c .below) (c .most) (c .count) a)) (asked d);
+                driven = rw (owes-held r c a) drove;
+              };
+              samples = rw (t .samples, l, ← e) (simp (append-assoc, append-nil));
+            };
       }
 
   acknowledge-step : r .place .phase ≡ Acknowledge → InAcknowledge longest r s → hearAcknowledge r v ≡ Follows → Invariant longest (followAcknowledge r v) (s ++ (v ∷ []))
@@ -330,16 +336,18 @@ module _ {longest : ℕ} (r : Reception) (s : List ℕ) (v : ℕ) (small : v < 2
     where
       on : v ≡ 1 → r .place .at < 7 → Invariant longest (moved r) (s ++ (v ∷ []))
       on o l =
-          record { holds = unfold InvariantIn moved atPlace frameHeld in
-          (let c = t .held in
-          rw p
-          (record {
-            within = omega arith;
-            held = record { most = c .most; fits = c .fits; long = c .long; below = c .below; count = c .count; coded = c .coded; request = c .request };
-            acknowledged = t .acknowledged;
-            valid = t .valid;
-            samples = rw (t .samples, o, ← (ones-added (r .place .at) 1)) (simp append-assoc);
-          })) }
+          record {
+            holds = unfold InvariantIn moved atPlace frameHeld in
+                (let c = t .held in
+                rw p
+                (record {
+                  within = omega arith;
+                  held = record { most = c .most; fits = c .fits; long = c .long; below = c .below; count = c .count; coded = c .coded; request = c .request };
+                  acknowledged = t .acknowledged;
+                  valid = t .valid;
+                  samples = rw (t .samples, o, ← (ones-added (r .place .at) 1)) (simp append-assoc);
+                }));
+          }
 
       go : (z : Bool) → eqb v 0 ≡ z → (b : Bool) → ltb (r .place .at) 7 ≡ b → pick z (Fault CV) (pick b Follows Good) ≡ Follows → Invariant longest (pick b (moved r) r) (s ++ (v ∷ []))
       go true e b d h = absurd (fault-follows h)
