@@ -12,7 +12,7 @@ use Rattle.line.specs.Bits.{pick}
 use Rattle.line.proofs.Laws.{pick-same}
 use Rattle.rules.specs.Definitions.Setters.{withTe, withTok, withRe, withRok, withRnok, withActivity, withReport, withLine, withService}
 use Rattle.rules.specs.Definitions.Longest.{longestOf}
-use Rattle.rules.specs.Definitions.Registers.{both, hasBit, command, interruptReset, asksReset, asksIdle, asksActivation, unless, cleared, resetReport}
+use Rattle.rules.specs.Definitions.Registers.{both, hasBit, command, interruptEnable, interruptReset, asksReset, asksIdle, asksActivation, unless, cleared, resetReport}
 use Rattle.rules.specs.Definitions.Channels.{acknowledgeAsked}
 use Rattle.rules.specs.Statements.Bits.{bitAt}
 use Rattle.rules.specs.Definitions.Reception.{underWay, isUnderWay, unsettled}
@@ -27,6 +27,7 @@ use Rattle.rules.specs.Definitions.Run.{fresh, accept, answered, restedS
 use Rattle.rules.proofs.Ranges.Limits.{Fine}
 use Rattle.rules.proofs.Logic.{both-true, clash, not-true, left}
 use Rattle.rules.proofs.Judged.{went, lost, broke, done, Tried, unjudged, judged, tried}
+use Rattle.rules.proofs.Ranges.Bytes.{at-below}
 use Rattle.rules.proofs.Ranges.Reach.{fine-after}
 use Rattle.rules.specs.Statements.Tally.{none}
 use Rattle.rules.proofs.Sending.Follow.{idle-report, choice-flags, isExhausted}
@@ -718,6 +719,7 @@ interrupts =
     record {
       asserted = line.line-shared;
       shared = line.shared-line;
+      reached = λ es. at-below (fine-after es .memory) interruptEnable;
       status-read = line.status-is-read;
       enable-read = line.enable-is-read;
       places = line.places;

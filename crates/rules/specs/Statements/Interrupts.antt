@@ -2,7 +2,7 @@
 --   Shared == two bytes share a one        Places == where the bits stand in 0x09
 --   Resets, Exhausts, Completes, Spoils, Stores == the events that raise RST, TE, TOK, RE, and ROK or RNOK
 --   Raised == these events leave the bit 1, and no other event turns it from 0 to 1
-use Prim.Native.Nat.{ℕ}
+use Prim.Native.Nat.{ℕ, _<_}
 use mathlib.Core.Bool.{Bool, true, false}
 use mathlib.Core.List.{List}
 use mathlib.Core.Path.{_≡_}
@@ -116,6 +116,8 @@ pub record Interrupts : Type 0 where
   -- "The interrupt line is asserted when status and enable share a one": both ways
   pub asserted : (c : Controller) → interruptLine c ≡ true → Shared (statusOf c) (enableOf c)
   pub shared : (c : Controller) → Shared (statusOf c) (enableOf c) → interruptLine c ≡ true
+  -- the byte at 0x0A is one in every reached state
+  pub reached : (es : List Event) → enableOf (after fresh es) < 256
   -- the two bytes are those that a host reads, and the status byte's bits are the six flags
   pub status-read : (c : Controller) → byteRead c interruptStatusAt ≡ statusOf c
   pub enable-read : (c : Controller) → byteRead c interruptEnable ≡ enableOf c
