@@ -9,6 +9,7 @@ use borrow.Author.Tests.{ltb-false, le-ltb, lt-ltb}
 use lib.Dec.{ltb, eqb}
 use lib.ListN.{length, take, drop, length-append}
 use lib.Seq.{sets, sets-eq, take-append-seam}
+use Rattle.line.proofs.Room.{sets-append}
 use Rattle.leb128.specs.Leb128.{pick}
 use Rattle.session.specs.declared.Fault.{Fault}
 use Rattle.session.specs.declared.Fault.the-variants.{Count, Version}
@@ -27,7 +28,7 @@ use Rattle.rules.specs.declared.Answer.{Answer}
 use Rattle.rules.specs.declared.CoreOutcome.{CoreOutcome}
 use Rattle.listing.specs.Listing.{line, eventsLine, badLine}
 use Rattle.listing.specs.Laid.{Laid}
-use Rattle.listing.proofs.Laws.{joined, sets-append}
+use Rattle.listing.proofs.Laws.{joined}
 use Rattle.bench_record.specs.Record.{answerTo, lines, closing, body, listing, listingOf, played, playedRoom}
 use Rattle.bench_record.specs.declared.Played.{Played}
 use Rattle.bench_record.specs.declared.Played.the-variants.{Listed, Short}

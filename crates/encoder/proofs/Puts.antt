@@ -3,7 +3,7 @@ use Prim.Native.Nat.{ℕ, suc, _+_, _-_, _*_, _/_, _%_, _≤_, _<_}
 use mathlib.Core.Bool.{Bool, true}
 use mathlib.Core.List.{List, [], _∷_, _++_, append-assoc}
 use mathlib.Core.Path.{_≡_, ap, _∙_, sym}
-use native.Mathlib.Nat.{add-zero, div-one}
+use native.Mathlib.Nat.{div-one}
 use native.Mathlib.Omega.{arith}
 use lib.ListN.{getD, set, length, drop, length-append, drop-of-length-le}
 use lib.Seq.{sets}
@@ -12,26 +12,12 @@ use Rattle.line.specs.LineCode.{lineCode, pattern}
 use Rattle.line.specs.Check.{check, remainder, allOnes}
 use Rattle.line.specs.Frame.{byteBits, covered, carried, start, closingSlots, slots}
 use Rattle.line.proofs.Laws.{next, header-bits, bits-length, bits-split, bits-mod, code-append, code-length, pattern-length, nibble-code, byteBits-length, remainder-append, covered-length}
+use Rattle.line.proofs.Room.{sets-append}
 use Rattle.codec.specs.Encode.{given}
-
-pub sets-append : (l : List ℕ) (i : ℕ) (vs ws : List ℕ) → sets l i (vs ++ ws) ≡ sets (sets l i vs) (i + length vs) ws
-sets-append l i [] ws = rw add-zero
-sets-append l i (v ∷ vs) ws =
-    let e : suc i + length vs ≡ i + length (v ∷ vs) = omega arith in
-    sets-append (set l i v) (suc i) vs ws ∙ ap (λ (k : ℕ). sets (sets (set l i v) (suc i) vs) k ws) e
 
 -- one part, and the next one behind it
 pub joined : (a b c : List ℕ) (i k : ℕ) (vs ws : List ℕ) → b ≡ sets a i vs → c ≡ sets b k ws → k ≡ i + length vs → c ≡ sets a i (vs ++ ws)
 joined a b c i k vs ws p q e = q ∙ rw (p, e) (sym (sets-append a i vs ws))
-
-pub put-next : (room slots : List ℕ) (at k : ℕ) → k < length slots →
-    sets room (at + k) (drop k slots) ≡ sets (set room (at + k) (getD slots k 0)) (at + (k + 1)) (drop (k + 1) slots)
-put-next room slots at k h =
-    let e : suc (at + k) ≡ at + (k + 1) = omega arith in
-    rw (next slots k h, ← e)
-
-pub put-end : (room slots : List ℕ) (i k : ℕ) → length slots ≤ k → sets room i (drop k slots) ≡ room
-put-end room slots i k h = rw (drop-of-length-le slots h)
 
 pub put-three : (l : List ℕ) (at a b c : ℕ) → set (set (set l (at + 15) a) (at + 16) b) (at + 17) c ≡ sets l (at + 15) (a ∷ b ∷ c ∷ [])
 put-three l at a b c =

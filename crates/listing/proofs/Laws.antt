@@ -3,12 +3,11 @@ use Prim.Native.Nat.{ℕ, zero, suc, _+_, _*_, _/_, _%_, _≤_, _<_}
 use mathlib.Core.Bool.{Bool, true, false}
 use mathlib.Core.List.{List, [], _∷_, _++_}
 use mathlib.Core.Path.{_≡_, refl, ap, sym, _∙_}
-use native.Mathlib.Nat.{add-zero}
 use native.Mathlib.Omega.{arith}
 use borrow.Author.Tests.{ltb-false, lt-ltb, le-ltb, le-leb}
 use lib.Dec.{ltb}
-use lib.ListN.{length, set, length-append}
-use lib.Seq.{sets}
+use lib.ListN.{length, length-append}
+use Rattle.line.proofs.Room.{sets-append}
 use Rattle.leb128.specs.Leb128.{pick}
 use Rattle.listing.specs.declared.Edge.{Edge}
 use Rattle.listing.specs.declared.Edge.the-variants.{Count, Bad, End}
@@ -83,12 +82,6 @@ hexadecimal-more zero h = absurd (omega arith)
 hexadecimal-more (suc n) h = rw (le-ltb (suc n) 256 h, same-hexadecimal n (suc n / 16) (suc n / 16) (omega arith) (omega arith))
 
 -- ---- texts in lent room
-
-pub sets-append : (l : List ℕ) (i : ℕ) (vs ws : List ℕ) → sets l i (vs ++ ws) ≡ sets (sets l i vs) (i + length vs) ws
-sets-append l i [] ws = rw add-zero
-sets-append l i (v ∷ vs) ws =
-    let e : suc i + length vs ≡ i + length (v ∷ vs) = omega arith in
-    sets-append (set l i v) (suc i) vs ws ∙ ap (λ (k : ℕ). sets (sets (set l i v) (suc i) vs) k ws) e
 
 pub joined : {a b c : List ℕ} {i j k : ℕ} {vs ws : List ℕ} → Laid a i vs b j → Laid b j ws c k → Laid a i (vs ++ ws) c k
 joined {a} {b} {c} {i} {j} {k} {vs} {ws} p q =

@@ -6,23 +6,12 @@ use mathlib.Core.List.{List, [], _∷_, _++_, append-assoc}
 use mathlib.Core.Path.{_≡_, refl, ap, sym, _∙_}
 use native.Mathlib.Numerals.{add-one}
 use native.Mathlib.Omega.{arith}
-use lib.ListN.{getD, set, length, drop, drop-of-length-le}
-use lib.Seq.{sets, drop-cons}
+use lib.ListN.{set, length}
 use Rattle.listing.specs.Listing.{digit, decimal, twoDigits, hexadecimal, holds, lineRoom, linePlace}
 use Rattle.listing.specs.Laid.{Laid}
 use Rattle.listing.proofs.Laws.{joined, decimal-one, decimal-more, decimal-long-18, hexadecimal-two, hexadecimal-more}
 
 -- ---- bytes one by one
-
-pub put-here : (room text : List ℕ) (i k : ℕ) → k < length text → sets room i (drop k text) ≡ sets (set room i (getD text k 0)) (i + 1) (drop (k + 1) text)
-put-here room text i k h = rw (drop-cons text k 0 h, add-one, add-one)
-
-pub put-next : (room text : List ℕ) (at k : ℕ) → k < length text →
-    sets room (at + k) (drop k text) ≡ sets (set room (at + k) (getD text k 0)) (at + (k + 1)) (drop (k + 1) text)
-put-next room text at k h = let e : at + (k + 1) ≡ at + k + 1 = omega arith in rw e (put-here room text (at + k) k h)
-
-pub put-end : (room text : List ℕ) (i k : ℕ) → length text ≤ k → sets room i (drop k text) ≡ room
-put-end room text i k h = rw (drop-of-length-le text h)
 
 pub one : (room : List ℕ) (at v : ℕ) → Laid room at (v ∷ []) (set room at v) (at + 1)
 one room at v = record { room = refl; behind = refl }

@@ -4,7 +4,7 @@ use mathlib.Core.Path.{_≡_, refl, sym, _∙_}
 use native.Mathlib.Omega.{arith}
 use lib.ListN.{length, drop, length-set}
 use lib.Seq.{sets}
-use Rattle.encoder.proofs.Puts.{put-next, put-end}
+use Rattle.line.proofs.Room.{put-next, put-end}
 use Rattle.encoder.proofs.put.Statement.{statement}
 use Rattle.encoder.proofs.put.Tie as tie
 

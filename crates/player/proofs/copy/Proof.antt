@@ -3,7 +3,7 @@ use native.Mathlib.Omega.{arith}
 use Prim.Native.Nat.{_≤_, _-_}
 use lib.ListN.{length, drop, length-set}
 use lib.Seq.{sets}
-use Rattle.listing.proofs.Puts.{put-here, put-end}
+use Rattle.line.proofs.Room.{put-here, put-end}
 use Rattle.player.proofs.copy.Statement.{statement}
 use Rattle.player.proofs.copy.Tie as tie
 
