@@ -12,7 +12,7 @@ use Rattle.line.specs.Bits.{pick}
 use Rattle.line.proofs.Laws.{pick-same}
 use Rattle.rules.specs.Definitions.Setters.{withTe, withTok, withRe, withRok, withRnok, withActivity, withReport, withLine, withService}
 use Rattle.rules.specs.Definitions.Longest.{longestOf}
-use Rattle.rules.specs.Definitions.Registers.{both, hasBit, command, interruptEnable, interruptReset, asksReset, asksIdle, asksActivation, unless, cleared, resetReport}
+use Rattle.rules.specs.Definitions.Registers.{both, hasBit, command, interruptEnable, interruptReset, asksReset, asksIdle, asksActivation, cleared, resetReport}
 use Rattle.rules.specs.Definitions.Channels.{acknowledgeAsked}
 use Rattle.rules.specs.Statements.Bits.{bitAt}
 use Rattle.rules.specs.Definitions.Reception.{underWay, isUnderWay, unsettled}
@@ -25,7 +25,7 @@ use Rattle.rules.specs.Definitions.Slots.{roleIn, heardAs, heard, delive
 use Rattle.rules.specs.Definitions.Host.{resetAll, resets, sleeps, modeCommanded, flagsCleared, coreWritten, serviceAsked, stoppedCore, byteWritten, hostWritten}
 use Rattle.rules.specs.Definitions.Run.{fresh, accept, answered, restedSlot, step, next, after}
 use Rattle.rules.proofs.Ranges.Limits.{Fine}
-use Rattle.rules.proofs.Logic.{both-true, clash, not-true, left}
+use Rattle.rules.proofs.Logic.{both-true, clash, not-true, unless-false, left}
 use Rattle.rules.proofs.Judged.{went, lost, broke, done, Tried, unjudged, judged, tried}
 use Rattle.rules.proofs.Ranges.Bytes.{at-below}
 use Rattle.rules.proofs.Ranges.Reach.{fine-after}
@@ -273,11 +273,6 @@ accepted-so c e value d h = rw h
 passed : (t : Bool) {b : Bool} → b ≡ false → pick t true b ≡ true → t ≡ true
 passed true e h = refl
 passed false e h = absurd (false≢true (sym e ∙ h))
-
-unless-false : (b : Bool) (reset : Bool) → b ≡ false → unless b reset ≡ false
-unfolding unless
-unless-false b true e = refl
-unless-false b false e = e
 
 reset-flags : (g : Flags → Bool) (c : Controller) → g (flagsOf (resetAll c)) ≡ true → g (resetReport .flags) ≡ true
 unfolding resetAll resetCore

@@ -6,10 +6,10 @@ use mathlib.Core.Path.{_≡_, refl, ap, _∙_, sym}
 use lib.Dec.{eqb}
 use lib.ListN.{getD}
 use Rattle.line.specs.Bits.{pick}
-use Rattle.rules.proofs.Logic.{left}
+use Rattle.rules.proofs.Logic.{unless-false, left}
 use Rattle.rules.specs.Definitions.Setters.{withActivity, withReport, withLine, withService}
 use Rattle.rules.specs.Definitions.Longest.{longestOf}
-use Rattle.rules.specs.Definitions.Registers.{both, command, interruptReset, transmitControl, autonomous, unless, cleared, asksIdle, asksActivation}
+use Rattle.rules.specs.Definitions.Registers.{both, command, interruptReset, transmitControl, autonomous, cleared, asksIdle, asksActivation}
 use Rattle.rules.specs.Definitions.Channels.{lowestReady, acknowledgeAsked}
 use Rattle.rules.specs.Definitions.Reception.{underWay, unsettled}
 use Rattle.rules.specs.Definitions.Delivery.{receiveError, reportStored, reportHeard, reportDelivered}
@@ -232,17 +232,12 @@ module _ (k : Core) (address v : ℕ) where
       left (λ x. x .service) (eqb address command) (modeCommanded k v) (pick (eqb address interruptReset) (flagsCleared k v) k) (k .service) (mode-service k v)
       (left (λ x. x .service) (eqb address interruptReset) (flagsCleared k v) k (k .service) (unfold flagsCleared in refl) refl)
 
-  unless-false : (reset : Bool) → unless false reset ≡ false
-  unfolding unless
-  unless-false true = refl
-  unless-false false = refl
-
   -- a write can clear TE, and never raises it
   pub written-te : k .report .flags .te ≡ false → coreWritten k address v .report .flags .te ≡ false
   unfolding coreWritten
   written-te e =
       left (λ x. x .report .flags .te) (eqb address command) (modeCommanded k v) (pick (eqb address interruptReset) (flagsCleared k v) k) false (ap (λ x. x .flags .te) (mode-report k v) ∙ e)
-      (left (λ x. x .report .flags .te) (eqb address interruptReset) (flagsCleared k v) k false (unfold flagsCleared cleared in rw e (unless-false (eqb (v / 16 % 2) 1))) e)
+      (left (λ x. x .report .flags .te) (eqb address interruptReset) (flagsCleared k v) k false (unfold flagsCleared cleared in unless-false (k .report .flags .te) (eqb (v / 16 % 2) 1) e) e)
 
 module _ (k : Core) (s : Service) where
   pub stopped-service : stoppedCore k s .service ≡ settled (stopped s) s

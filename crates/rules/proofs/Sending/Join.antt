@@ -24,6 +24,7 @@ use Rattle.rules.specs.Definitions.Service.{resting, stopped, endingOf, 
 use Rattle.rules.specs.Definitions.Slots.{serviceJudged}
 use Rattle.rules.specs.Definitions.Host.{rearCommanded, serviceAsked}
 use Rattle.rules.proofs.Judged.{Judged, went, lost, broke, done, slot-judged}
+use Rattle.rules.proofs.Roles.{judge-driving}
 use Rattle.rules.specs.Statements.Tally as tally
 use Rattle.rules.specs.Statements.Tally.{Stand, away, between, opening, inside, Tally, none, goes, contended, failed, sent, asksAcknowledge, dueLevel, verdict, spentT, judgedAs, countedIn, countedT, givenUp, endedIn, endedT, chosenT, choiceT, startIn, startT, isAway, asks, askedIn, askedT, openHalfT, arbitratedT}
 use Rattle.rules.specs.declared.Choice.{Choice}
@@ -255,15 +256,15 @@ settled-between : (t : Tally) (v : ℕ) → t .stand ≡ between → t .errors �
 unfolding endingOf judge serviceJudged advance serviceIn made atStage drivesFrame isDriving endedT
 settled-between t v e h = settled-in between t e (omega arith) ∙ ap (λ (s : Stand). serviceOf (endedIn s t)) (sym e)
 
-pub judge-driving : (t : Tally) (stage : Stage) (k v : ℕ) → isDriving stage ≡ true → judge (made t stage k .effort) v ≡ judgeSlot (coded (t .frame)) k v
-unfolding judge made drivesFrame atStage
-judge-driving t stage k v e = rw e
+pub made-driving : (t : Tally) (stage : Stage) (k v : ℕ) → isDriving stage ≡ true → judge (made t stage k .effort) v ≡ judgeSlot (coded (t .frame)) k v
+unfolding made drivesFrame atStage
+made-driving t stage k v e = judge-driving (made t stage k .effort) v e
 
 -- in an attempt, with slot k driven
 in-attempt : (t : Tally) (stage : Stage) (k start : ℕ) (levels : List ℕ) (v : ℕ) → isDriving stage ≡ true → k + 1 ≡ start + length levels → t .errors ≤ 15
     → settledAfter (made t stage k) v ≡ serviceOf (endedT (judgedAs (verdict (t .frame) k (levelAt (coded (t .frame)) k) v) t start levels))
 in-attempt t stage k start levels v b e h =
-    ap (λ (w : Verdict). settled (endingOf w (serviceJudged w (made t stage k))) (serviceJudged w (made t stage k))) (judge-driving t stage k v b)
+    ap (λ (w : Verdict). settled (endingOf w (serviceJudged w (made t stage k))) (serviceJudged w (made t stage k))) (made-driving t stage k v b)
     ∙ settle-judged (slot-judged (coded (t .frame)) k v) t stage k start levels e h
     ∙ ap (λ (x : tally.Verdict). serviceOf (endedT (judgedAs x t start levels))) (kind-same (t .frame) k v)
 

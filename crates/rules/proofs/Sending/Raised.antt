@@ -15,7 +15,7 @@ use Rattle.rules.specs.Definitions.Slots.{serviceJudged}
 use Rattle.rules.specs.Statements.Tally as tally
 use Rattle.rules.specs.Statements.Tally.{Stand, away, between, opening, inside, Tally, goes, contended, failed, verdict, spentT, judgedAs, countedIn, countedT, isAway}
 use Rattle.rules.proofs.Judged.{Judged, went, lost, broke, done, slot-judged}
-use Rattle.rules.proofs.Sending.Join.{made, serviceIn, serviceOf, kind, kind-same, stopped-made, gone-on, was-lost, has-failed, judge-driving, last-level, drivenIn, isBetweenStand}
+use Rattle.rules.proofs.Sending.Join.{made, serviceIn, serviceOf, kind, kind-same, stopped-made, gone-on, was-lost, has-failed, made-driving, last-level, drivenIn, isBetweenStand}
 use Rattle.rules.proofs.Sending.Follow.{isExhausted}
 use Rattle.rules.specs.declared.Coded.{Coded}
 use Rattle.rules.specs.declared.Stage.{Stage}
@@ -53,7 +53,7 @@ in-attempt : (t : Tally) (stage : Stage) (k start : ℕ) (levels : List ℕ) (v 
     → isExhausted (endingOf (judge (made t stage k .effort) v) (serviceJudged (judge (made t stage k .effort) v) (made t stage k)))
     ≡ ltb (judgedAs (verdict (t .frame) k (levelAt (coded (t .frame)) k) v) t start levels .setting) (judgedAs (verdict (t .frame) k (levelAt (coded (t .frame)) k) v) t start levels .errors)
 in-attempt t stage k start levels v b e g h =
-    ap (λ (w : Verdict). isExhausted (endingOf w (serviceJudged w (made t stage k)))) (judge-driving t stage k v b)
+    ap (λ (w : Verdict). isExhausted (endingOf w (serviceJudged w (made t stage k)))) (made-driving t stage k v b)
     ∙ exhausted-judged (slot-judged (coded (t .frame)) k v) t stage k start levels e g h
     ∙ ap (λ (x : tally.Verdict). ltb (judgedAs x t start levels .setting) (judgedAs x t start levels .errors)) (kind-same (t .frame) k v)
 
