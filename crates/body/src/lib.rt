@@ -40,10 +40,10 @@ fn reply_request(low: u8) -> bool
 // ---- the check
 
 // A byte of the frame; behind the last one, 0.
-fn byte_at(bytes: [u8; 34], i: usize) -> u8
+fn byte_at(bytes: [u8; line::CODED_BYTES], i: usize) -> u8
     ensures { λ r. ⌜ r ≡ getD bytes i 0 ⌝ }
 {
-    if i < 34 {
+    if i < line::CODED_BYTES {
         return bytes[i];
     }
     0
@@ -57,7 +57,7 @@ fn fifteen(high: u8, low: u8, last: u8) -> u16
 }
 
 // The check received: twelve bits behind the n data bytes, and the last three, which are plain.
-fn check_received(bytes: [u8; 34], n: u8, last: u8) -> u16
+fn check_received(bytes: [u8; line::CODED_BYTES], n: u8, last: u8) -> u16
     ensures { λ r. ⌜ r ≡ rule.checkReceived bytes n last ⌝ }
 {
     let high = byte_at(bytes, n as usize + 2);
@@ -65,11 +65,11 @@ fn check_received(bytes: [u8; 34], n: u8, last: u8) -> u16
     fifteen(high, low, last)
 }
 
-// The check of identifier, command and n data bytes. A frame's bytes hold at most 32.
-fn check_due(bytes: [u8; 34], n: u8) -> u16
+// The check of identifier, command and n data bytes. A frame's bytes hold at most DATA_AND_CHECK behind its command.
+fn check_due(bytes: [u8; line::CODED_BYTES], n: u8) -> u16
     ensures { λ r. ⌜ r ≡ rule.checkDue bytes n ⌝ }
 {
-    if n < 32 {
+    if n < line::DATA_AND_CHECK {
         let end = n as usize + 2;
         return frame_check::check_of(&bytes[..end]);
     }

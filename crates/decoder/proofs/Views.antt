@@ -12,7 +12,7 @@ use lib.Seq.{take-at, drop-at, sets}
 use borrow.Author.Tests.{eqb-true, leb-true, lt-ltb, le-ltb}
 use Rattle.line.specs.Bits.{pick, bitsValue, bitsValueFrom, Below, none, one}
 use Rattle.line.specs.Check.{checkBit, remainder, check, allOnes}
-use Rattle.line.specs.Frame.{Frame, start, endOfFrame}
+use Rattle.line.specs.Frame.{Frame, longestData, start, endOfFrame}
 use Rattle.line.proofs.Laws.{next, value-below, value-append, remainder-append}
 use Rattle.codec.specs.declared.Refusal.{Refusal}
 use Rattle.codec.specs.declared.Refusal.the-variants.{Level, Start, Pair, Length, Check, Acknowledge, EndOfFrame, CutShort, LeftOver, Room}
@@ -114,14 +114,14 @@ module _ (r : Refusal) (p s : List ℕ) (at i : ℕ) where
 
 -- ---- three plain bits, then a pair
 
-short-plain : (l bs : List ℕ) → length l < 3 → plainRun 30 l bs ≡ fault CutShort
+short-plain : (l bs : List ℕ) → length l < 3 → plainRun longestData l bs ≡ fault CutShort
 unfolding plainRun
 short-plain [] bs h = refl
 short-plain (a ∷ []) bs h = refl
 short-plain (a ∷ b ∷ []) bs h = refl
 short-plain (a ∷ b ∷ c ∷ l) bs h = absurd (omega arith)
 
-short-pair : (l bs : List ℕ) → length l < 2 → pairAt 30 l bs ≡ fault CutShort
+short-pair : (l bs : List ℕ) → length l < 2 → pairAt longestData l bs ≡ fault CutShort
 unfolding plainRun
 short-pair [] bs h = refl
 short-pair (a ∷ []) bs h = refl
@@ -161,25 +161,25 @@ module _ (s : List ℕ) (j : ℕ) where
       let b : 13 + 5 * j + 1 + 1 ≡ 15 + 5 * j = omega arith in
       next s (13 + 5 * j) (omega arith) ∙ rw (next s (13 + 5 * j + 1) (omega arith), b)
 
-  pub plain-on : 13 + 5 * j ≤ length s → plainRun 30 (drop (10 + 5 * j) s) (view s 0 (4 * j)) ≡ pairAt 30 (drop (13 + 5 * j) s) (seenBits s j)
+  pub plain-on : 13 + 5 * j ≤ length s → plainRun longestData (drop (10 + 5 * j) s) (view s 0 (4 * j)) ≡ pairAt longestData (drop (13 + 5 * j) s) (seenBits s j)
   unfolding plainRun
   plain-on h =
-      ap (λ (l : List ℕ). plainRun 30 l (view s 0 (4 * j))) (three-slots h) ∙ ap (λ (bs : List ℕ). pairAt 30 (drop (13 + 5 * j) s) bs) seen-three
+      ap (λ (l : List ℕ). plainRun longestData l (view s 0 (4 * j))) (three-slots h) ∙ ap (λ (bs : List ℕ). pairAt longestData (drop (13 + 5 * j) s) bs) seen-three
 
   pub pair-on : 15 + 5 * j ≤ length s →
-      pairAt 30 (drop (13 + 5 * j) s) (seenBits s j)
+      pairAt longestData (drop (13 + 5 * j) s) (seenBits s j)
       ≡ pick (eqb (getD s (13 + 5 * j) 0) (getD s (13 + 5 * j + 1) 0))
       (pick (eqb (getD s (13 + 5 * j) 0) 0) (read (seenBits s j) (drop (15 + 5 * j) s)) (fault Pair))
-      (pick (leb 67 j) (fault Length) (plainRun 30 (drop (10 + 5 * (j + 1)) s) (view s 0 (4 * (j + 1)))))
+      (pick (leb (7 + 2 * longestData) j) (fault Length) (plainRun longestData (drop (10 + 5 * (j + 1)) s) (view s 0 (4 * (j + 1)))))
   unfolding plainRun most
   pair-on h =
       let n : 10 + 5 * (j + 1) ≡ 15 + 5 * j = omega arith in
       rw (two-slots h, seen-four, seen-nibbles, n)
 
-  pub plain-short : length s - (10 + 5 * j) < 3 → plainRun 30 (drop (10 + 5 * j) s) (view s 0 (4 * j)) ≡ fault CutShort
+  pub plain-short : length s - (10 + 5 * j) < 3 → plainRun longestData (drop (10 + 5 * j) s) (view s 0 (4 * j)) ≡ fault CutShort
   plain-short h = short-plain (drop (10 + 5 * j) s) (view s 0 (4 * j)) (rw length-drop h)
 
-  pub pair-short : length s - (13 + 5 * j) < 2 → pairAt 30 (drop (13 + 5 * j) s) (seenBits s j) ≡ fault CutShort
+  pub pair-short : length s - (13 + 5 * j) < 2 → pairAt longestData (drop (13 + 5 * j) s) (seenBits s j) ≡ fault CutShort
   pair-short h = short-pair (drop (13 + 5 * j) s) (seenBits s j) (rw length-drop h)
 
 -- ---- the check, the acknowledge and the end
@@ -192,15 +192,15 @@ right-view s j h =
     let n : 4 * j + 3 - (4 * j - 12) ≡ 15 = omega arith in
     rw (view-length s 0 (4 * j + 3), m, view-take s 0 (4 * j - 12) (4 * j + 3) (omega arith), view-drop s 0 (4 * j - 12) (4 * j + 3) (omega arith), n, zero-add)
 
-pub whole-odd : (j : ℕ) → whole 30 j ≡ true → (7 ≤ j) × (j ≤ 67) × (j % 2 ≡ 1)
+pub whole-odd : (j : ℕ) → whole longestData j ≡ true → (7 ≤ j) × (j ≤ 7 + 2 * longestData) × (j % 2 ≡ 1)
 unfolding whole most
 whole-odd j e =
-    let p = both (eqb (j % 2) 1) (pick (leb 7 j) (leb j 67) false) e in
-    let q = both (leb 7 j) (leb j 67) (p .1) in
-    (leb-true 7 j (q .0), leb-true j 67 (q .1), eqb-true (j % 2) 1 (p .0))
+    let p = both (eqb (j % 2) 1) (pick (leb 7 j) (leb j (7 + 2 * longestData)) false) e in
+    let q = both (leb 7 j) (leb j (7 + 2 * longestData)) (p .1) in
+    (leb-true 7 j (q .0), leb-true j (7 + 2 * longestData) (q .1), eqb-true (j % 2) 1 (p .0))
 
 pub judged-seen : (s t : List ℕ) (j : ℕ) →
-    judged 30 (seenBits s j) t ≡ pick (whole 30 j) (pick (right (seenBits s j)) (closing (seenBits s j) t) (refused Check)) (refused Length)
+    judged longestData (seenBits s j) t ≡ pick (whole longestData j) (pick (right (seenBits s j)) (closing (seenBits s j) t) (refused Check)) (refused Length)
 unfolding judged
 judged-seen s t j = rw (seen-nibbles s j)
 
@@ -304,21 +304,21 @@ pub begun : (s : List ℕ) (p : ℕ) (r : Read (Unit {0})) → Follows s 10 (At 
 begun s p r f = f .2 ∙ ap (λ (k : ℕ). read tt (drop k s)) (f .0)
 
 module _ (s : List ℕ) where
-  pub bad-level : levels s ≡ false → reading 30 s ≡ refused Level
+  pub bad-level : levels s ≡ false → reading longestData s ≡ refused Level
   unfolding reading
   bad-level e = rw e
 
   module _ (l : levels s ≡ true) where
-    pub bad-start : (r : Refusal) → expected Start start s ≡ fault r → reading 30 s ≡ refused r
+    pub bad-start : (r : Refusal) → expected Start start s ≡ fault r → reading longestData s ≡ refused r
     unfolding reading after
     bad-start r e = rw (l, e)
 
     module _ (b : expected Start start s ≡ read tt (drop 10 s)) where
-      pub bad-code : (r : Refusal) → plainRun 30 (drop 10 s) [] ≡ fault r → reading 30 s ≡ refused r
+      pub bad-code : (r : Refusal) → plainRun longestData (drop 10 s) [] ≡ fault r → reading longestData s ≡ refused r
       unfolding reading after
       bad-code r e = rw (l, b, e)
 
-      pub coded : (bs t : List ℕ) → plainRun 30 (drop 10 s) [] ≡ read bs t → reading 30 s ≡ judged 30 bs t
+      pub coded : (bs t : List ℕ) → plainRun longestData (drop 10 s) [] ≡ read bs t → reading longestData s ≡ judged longestData bs t
       unfolding reading after
       coded bs t e = rw (l, b, e)
 

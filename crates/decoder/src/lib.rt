@@ -8,8 +8,12 @@ ghost use lib.ListN.{length, drop};
 ghost use lib.Seq.{sets};
 ghost use Rattle.line.specs.Bits as bits;
 ghost use Rattle.line.specs.Check as check;
+ghost use Rattle.line.specs.Frame as frame;
 ghost use Rattle.codec.specs.Decode as rule;
 ghost use Rattle.decoder.specs.View as view;
+
+// The most whole nibbles before the last three bits of the check.
+const MOST_NIBBLES: usize = line::MOST_NIBBLES as usize;
 
 // Where the next part begins, or the fault.
 enum Found {
@@ -60,7 +64,7 @@ fn expected(s: &[u8], at: usize, pattern: &[u8], refusal: Refusal) -> Found
 // Three plain bits behind j whole nibbles. Answers the number of whole nibbles before the end of data.
 fn plain_run(s: &[u8], j: usize) -> Found
     requires { ⌜ 10 + 5 * j ≤ length (now s) ⌝ }
-    ensures { λ r. ⌜ view.Ends (now (s .entry)) r (rule.plainRun 30 (drop (10 + 5 * j) (now (s .entry))) (view.view (now (s .entry)) 0 (4 * j))) ⌝ }
+    ensures { λ r. ⌜ view.Ends (now (s .entry)) r (rule.plainRun frame.longestData (drop (10 + 5 * j) (now (s .entry))) (view.view (now (s .entry)) 0 (4 * j))) ⌝ }
 {
     let at = 10 + 5 * j;
     if s.len() - at < 3 {
@@ -72,7 +76,7 @@ fn plain_run(s: &[u8], j: usize) -> Found
 // A bit and its opposite behind j whole nibbles and three plain bits.
 fn pair(s: &[u8], j: usize) -> Found
     requires { ⌜ 13 + 5 * j ≤ length (now s) ⌝ }
-    ensures { λ r. ⌜ view.Ends (now (s .entry)) r (rule.pairAt 30 (drop (13 + 5 * j) (now (s .entry))) (view.seenBits (now (s .entry)) j)) ⌝ }
+    ensures { λ r. ⌜ view.Ends (now (s .entry)) r (rule.pairAt frame.longestData (drop (13 + 5 * j) (now (s .entry))) (view.seenBits (now (s .entry)) j)) ⌝ }
 {
     let at = 13 + 5 * j;
     if s.len() - at < 2 {
@@ -86,7 +90,7 @@ fn pair(s: &[u8], j: usize) -> Found
         }
         return Found::Fault(Refusal::Pair);
     }
-    if 67 <= j {
+    if MOST_NIBBLES <= j {
         return Found::Fault(Refusal::Length);
     }
     plain_run(s, j + 1)
@@ -130,13 +134,13 @@ fn right(s: &[u8], j: usize) -> bool
     value_at(s, covered, 15) == frame_check::ALL_ONES - remainder_of(s, covered)
 }
 
-// An odd number of whole nibbles, 7 to 67.
+// An odd number of whole nibbles, from 7 to the most.
 fn whole(j: usize) -> bool
-    ensures { λ r. ⌜ r ≡ rule.whole 30 j ⌝ }
+    ensures { λ r. ⌜ r ≡ rule.whole frame.longestData j ⌝ }
 {
     if j % 2 == 1 {
         if 7 <= j {
-            return j <= 67;
+            return j <= MOST_NIBBLES;
         }
         return false;
     }
@@ -162,7 +166,7 @@ fn acknowledged(s: &[u8], at: usize) -> Seen
 }
 
 fn head_of(s: &[u8], j: usize, acknowledge: bool) -> Head
-    requires { ⌜ (bits.Below 2 (now s)) × (15 + 5 * j ≤ length (now s)) × (7 ≤ j) × (j ≤ 67) ⌝ }
+    requires { ⌜ (bits.Below 2 (now s)) × (15 + 5 * j ≤ length (now s)) × (7 ≤ j) × (j ≤ 7 + 2 * frame.longestData) ⌝ }
     ensures { λ r. ⌜ r ≡ rule.headOf (rule.frameOf (view.seenBits (now (s .entry)) j) acknowledge) ⌝ }
 {
     let identifier = value_at(s, 0, 12);
@@ -177,7 +181,7 @@ fn head_of(s: &[u8], j: usize, acknowledge: bool) -> Head
 
 // What follows the end of data behind j whole nibbles.
 fn closing(s: &[u8], j: usize) -> Decoded
-    requires { ⌜ (bits.Below 2 (now s)) × (15 + 5 * j ≤ length (now s)) × (7 ≤ j) × (j ≤ 67) × (j % 2 ≡ 1) ⌝ }
+    requires { ⌜ (bits.Below 2 (now s)) × (15 + 5 * j ≤ length (now s)) × (7 ≤ j) × (j ≤ 7 + 2 * frame.longestData) × (j % 2 ≡ 1) ⌝ }
     ensures { λ r. ⌜ view.Gives (now (s .entry)) r (rule.closing (view.seenBits (now (s .entry)) j) (drop (15 + 5 * j) (now (s .entry)))) ⌝ }
 {
     match acknowledged(s, 15 + 5 * j) {
@@ -202,7 +206,7 @@ fn closing(s: &[u8], j: usize) -> Decoded
 // The length, then the check, then what follows.
 fn judged(s: &[u8], j: usize) -> Decoded
     requires { ⌜ (bits.Below 2 (now s)) × (15 + 5 * j ≤ length (now s)) ⌝ }
-    ensures { λ r. ⌜ view.Gives (now (s .entry)) r (rule.judged 30 (view.seenBits (now (s .entry)) j) (drop (15 + 5 * j) (now (s .entry)))) ⌝ }
+    ensures { λ r. ⌜ view.Gives (now (s .entry)) r (rule.judged frame.longestData (view.seenBits (now (s .entry)) j) (drop (15 + 5 * j) (now (s .entry)))) ⌝ }
 {
     if whole(j) {
         if right(s, j) {
@@ -214,7 +218,7 @@ fn judged(s: &[u8], j: usize) -> Decoded
 }
 
 fn reading(s: &[u8]) -> Decoded
-    ensures { λ r. ⌜ view.Gives (now (s .entry)) r (rule.reading 30 (now (s .entry))) ⌝ }
+    ensures { λ r. ⌜ view.Gives (now (s .entry)) r (rule.reading frame.longestData (now (s .entry))) ⌝ }
 {
     if levels(s) {
         let start = line::start();
@@ -244,8 +248,8 @@ fn fill(s: &[u8], room: &mut [u8], n: usize)
 
 // The frame that the slots are, its data bytes in the lent room; or why they are none.
 pub fn decode(slots: &[u8], room: &mut [u8]) -> Decoded
-    ensures answer { λ r. ⌜ r ≡ rule.decoded (length (now (room .entry))) (rule.reading 30 (now (slots .entry))) ⌝ }
-    ensures room { λ _. ⌜ now (room .exit) ≡ rule.decodedRoom (now (room .entry)) (rule.reading 30 (now (slots .entry))) ⌝ }
+    ensures answer { λ r. ⌜ r ≡ rule.decoded (length (now (room .entry))) (rule.reading frame.longestData (now (slots .entry))) ⌝ }
+    ensures room { λ _. ⌜ now (room .exit) ≡ rule.decodedRoom (now (room .entry)) (rule.reading frame.longestData (now (slots .entry))) ⌝ }
 {
     match reading(slots) {
         Decoded::Refused(r) => Decoded::Refused(r),

@@ -10,7 +10,7 @@ use borrow.Author.Tests.{ltb-true, ltb-false}
 use mathlib.Core.Bool.{false}
 use Rattle.line.specs.Bits.{pick, bits}
 use Rattle.line.specs.LineCode.{lineCode, pattern}
-use Rattle.line.specs.Frame.{byteBits}
+use Rattle.line.specs.Frame.{longestData, byteBits}
 use Rattle.line.proofs.Laws.{any-default, code-length, code-at, pattern-length, pattern-mod, byteBits-length, picked}
 use Rattle.line.proofs.Levels.{in-start, in-code, in-end-of-data, recessive}
 use Rattle.rules.specs.Definitions.Attempt.{sentSlots, levelAt}
@@ -63,14 +63,14 @@ coded-is bytes t m a h =
     ∙ rw (← (nibble-bit bytes (m / 5) (min (m % 5) 3) (omega arith) (omega arith)), ← (getD-take t (byteBits bytes) (m / 5 * 4 + min (m % 5) 3) 0 i))
     (sym (code-at (take t (byteBits bytes)) m (rw (code-length, l) h))))
 
-module _ (bytes : List ℕ) (n k : ℕ) (long : length bytes ≡ 34) where
+module _ (bytes : List ℕ) (n k : ℕ) (long : length bytes ≡ longestData + 4) where
   abbrev t : ℕ
-  t = 31 + 8 * (n % 31)
+  t = 31 + 8 * (n % (longestData + 1))
 
   abbrev s : List ℕ
   s = take t (byteBits bytes)
 
-  code-long : length (lineCode s) ≡ 38 + 10 * (n % 31)
+  code-long : length (lineCode s) ≡ 38 + 10 * (n % (longestData + 1))
   code-long = rw (code-length s, length-take-le t (byteBits bytes) (rw (byteBits-length bytes, long) (omega arith))) (omega arith)
 
   pub level-placed : placed bytes n k ≡ levelAt (framed n bytes) k
@@ -78,9 +78,9 @@ module _ (bytes : List ℕ) (n k : ℕ) (long : length bytes ≡ 34) where
   level-placed =
       let l = code-long in
       picked P (ltb k 10) _ _ (λ e. in-start s false k (ltb-true k 10 e)) λ e₁.
-      picked P (ltb k (48 + 10 * (n % 31))) _ _
+      picked P (ltb k (48 + 10 * (n % (longestData + 1)))) _ _
       (λ e. coded-is bytes t (k - 10) (rw long (omega arith)) (omega (arith, ltb-true, ltb-false)) ∙ in-code s false k (k - 10) (omega (arith, ltb-false)) (omega (arith, ltb-true, ltb-false))) λ e₂.
-      picked P (ltb k (50 + 10 * (n % 31))) 0 1 (λ e. in-end-of-data s false k (omega (arith, ltb-false)) (omega (arith, ltb-true))) λ e₃.
+      picked P (ltb k (50 + 10 * (n % (longestData + 1)))) 0 1 (λ e. in-end-of-data s false k (omega (arith, ltb-false)) (omega (arith, ltb-true))) λ e₃.
       recessive s k (omega (arith, ltb-false))
     where
       P : ℕ → Type 0

@@ -1,7 +1,7 @@
 -- The level of a slot of the fixed frame, found by its place (01, Frames on the line; Sending).
 --   nibbleAt   == nibble i of the bytes, the high half of a byte first
 --   slotCoded  == slot m behind the start: a slot of its nibble's pattern
---   placed     == slot k of the frame of n data bytes. A count above 30, which no state in range has, is taken mod 31
+--   placed     == slot k of the frame of n data bytes. A count above longestData, which no state in range has, is taken mod longestData + 1
 --   framed     == the fixed frame of n data bytes
 use Prim.Native.Nat.{ℕ, _+_, _-_, _*_, _/_, _%_}
 use mathlib.Core.List.{List}
@@ -9,7 +9,7 @@ use lib.Dec.{eqb, ltb}
 use lib.ListN.{getD}
 use Rattle.line.specs.Bits.{pick}
 use Rattle.line.specs.LineCode.{pattern}
-use Rattle.line.specs.Frame.{start}
+use Rattle.line.specs.Frame.{longestData, start}
 use Rattle.rules.specs.declared.Coded.{Coded}
 
 unfoldable pub nibbleAt : List ℕ → ℕ → ℕ
@@ -21,7 +21,7 @@ slotCoded bytes m = getD (pattern (nibbleAt bytes (m / 5) % 16)) (m % 5) 0
 unfoldable pub placed : List ℕ → ℕ → ℕ → ℕ
 placed bytes n k =
     pick (ltb k 10) (getD start k 1)
-    (pick (ltb k (48 + 10 * (n % 31))) (slotCoded bytes (k - 10)) (pick (ltb k (50 + 10 * (n % 31))) 0 1))
+    (pick (ltb k (48 + 10 * (n % (longestData + 1)))) (slotCoded bytes (k - 10)) (pick (ltb k (50 + 10 * (n % (longestData + 1)))) 0 1))
 
 unfoldable pub framed : ℕ → List ℕ → Coded
 framed n bytes = record { n = n; bytes = bytes }

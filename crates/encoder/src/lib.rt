@@ -12,6 +12,9 @@ ghost use Rattle.line.specs.Check as check;
 ghost use Rattle.line.specs.Frame as frame;
 ghost use Rattle.codec.specs.Encode as rule;
 
+// The most data bytes of a frame.
+const LONGEST: usize = line::LONGEST as usize;
+
 // Slots as written, from `at` on.
 fn put(room: &mut [u8], at: usize, slots: &[u8])
     requires { ⌜ at + length (now slots) ≤ length (now room) ⌝ }
@@ -100,7 +103,7 @@ fn check_of_frame(identifier: u16, command: u8, bytes: &[u8]) -> u16
 
 // All slots of a frame, in room that holds them.
 fn put_frame(room: &mut [u8], identifier: u16, command: u8, bytes: &[u8], acknowledge: bool)
-    requires { ⌜ (identifier < 4096) × (command < 16) × (length (now bytes) ≤ 30) × (60 + 10 * length (now bytes) ≤ length (now room)) ⌝ }
+    requires { ⌜ (identifier < 4096) × (command < 16) × (length (now bytes) ≤ frame.longestData) × (60 + 10 * length (now bytes) ≤ length (now room)) ⌝ }
     ensures { λ _. ⌜ now (room .exit) ≡ sets (now (room .entry)) 0 (frame.slots (rule.given identifier command (now (bytes .entry)) acknowledge)) ⌝ }
 {
     let long = 10 * bytes.len();
@@ -120,7 +123,7 @@ pub fn encode(
     acknowledge: bool,
     room: &mut [u8],
 ) -> Encoded
-    ensures answer { λ r. ⌜ r ≡ rule.encoded 30 (length (now (room .entry))) (rule.given identifier command (now (bytes .entry)) acknowledge) ⌝ }
+    ensures answer { λ r. ⌜ r ≡ rule.encoded frame.longestData (length (now (room .entry))) (rule.given identifier command (now (bytes .entry)) acknowledge) ⌝ }
     ensures room { λ r. ⌜ now (room .exit) ≡ rule.encodedRoom (now (room .entry)) (rule.given identifier command (now (bytes .entry)) acknowledge) r ⌝ }
 {
     if 4095 < identifier {
@@ -129,7 +132,7 @@ pub fn encode(
     if 15 < command {
         return Encoded::Refused(Refusal::Command);
     }
-    if 30 < bytes.len() {
+    if LONGEST < bytes.len() {
         return Encoded::Refused(Refusal::Bytes);
     }
     let size = 60 + 10 * bytes.len();

@@ -19,7 +19,7 @@ pub fn resting() -> Service
         effort: Effort {
             frame: Coded {
                 n: 0,
-                bytes: [0u8; 34],
+                bytes: [0u8; line::CODED_BYTES],
             },
             setting: 0,
             progress: stage::at_stage(Stage::Resting, 0),

@@ -8,7 +8,7 @@ use Prim.Native.Nat.{ℕ}
 use mathlib.Core.Bool.{Bool, true, false}
 use mathlib.Core.List.{List, [], _∷_}
 use lib.ListN.{length}
-use Rattle.line.specs.Frame.{Frame}
+use Rattle.line.specs.Frame.{Frame, longestData}
 use Rattle.codec.specs.Answer.{number}
 use Rattle.codec.specs.Encode.{encoded, encodedRoom}
 use Rattle.codec.specs.Decode.{reading, decoded, decodedRoom}
@@ -22,9 +22,8 @@ use Rattle.bench_record.specs.declared.Played.the-variants.{Listed, Short}
 
 -- ---- a frame to slots
 
--- 30 is the largest number of data bytes
 abbrev pub encoding : List ℕ → Frame → Encoded
-encoding room f = encoded 30 (length room) f
+encoding room f = encoded longestData (length room) f
 
 abbrev pub roomEncoded : List ℕ → Frame → List ℕ
 roomEncoded room f = encodedRoom room f (encoding room f)
@@ -40,10 +39,10 @@ slotCount (NotEncoded r) = 0
 -- ---- slots to a frame
 
 abbrev pub decoding : List ℕ → List ℕ → Decoded
-decoding room slots = decoded (length room) (reading 30 slots)
+decoding room slots = decoded (length room) (reading longestData slots)
 
 abbrev pub roomDecoded : List ℕ → List ℕ → List ℕ
-roomDecoded room slots = decodedRoom room (reading 30 slots)
+roomDecoded room slots = decodedRoom room (reading longestData slots)
 
 unfoldable pub decodeNumber : Decoded → ℕ
 decodeNumber (Accepted h) = 0

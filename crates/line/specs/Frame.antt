@@ -1,5 +1,6 @@
 -- A frame and its slots (01, Frames on the line, the table of parts). Recessive is 1, dominant 0.
 --   Frame    == identifier, command, data bytes, and whether an acknowledge is present
+--   longestData == the most data bytes of a frame
 --   Fits     == the frame's numbers are in their ranges, with at most `longest` data bytes
 --   covered  == the bits that the check covers: identifier, command and data
 --   slotsOf  == the slots of a row of coded bits and an acknowledge, in the order of the table of parts
@@ -17,6 +18,10 @@ pub record Frame : Type 0 where
   pub command : ℕ
   pub bytes : List ℕ
   pub acknowledge : Bool
+
+-- data: "n bytes, 0 to 30"
+abbrev pub longestData : ℕ
+longestData = 30
 
 pub record Fits (longest : ℕ) (f : Frame) : Type 0 where
   pub identifier : f .identifier ≤ 4095

@@ -30,6 +30,18 @@ pub enum Half {
 // The most data bytes of a frame.
 pub const LONGEST: u8 = 30;
 
+// How many numbers of data bytes there are: 0 to LONGEST.
+pub const COUNTS: u8 = LONGEST + 1;
+
+// The most whole nibbles before the last three bits of the check: identifier, command and check have seven, a data byte two.
+pub const MOST_NIBBLES: u8 = 7 + 2 * LONGEST;
+
+// The bytes of LONGEST data bytes and check.
+pub const DATA_AND_CHECK: u8 = LONGEST + 2;
+
+// The bytes of identifier, command, LONGEST data bytes and check.
+pub const CODED_BYTES: usize = LONGEST as usize + 4;
+
 // The five slots of each nibble.
 const PATTERNS: [[u8; 5]; 16] = [
     [0, 0, 0, 0, 1],

@@ -16,7 +16,7 @@ use rules::Coded;
 
 // The address k places behind a pointer; 0xFF is followed by 0x80.
 fn mailbox_at(pointer: u8, k: usize) -> usize
-    requires { ⌜ k ≤ 32 ⌝ }
+    requires { ⌜ k ≤ frame.longestData + 2 ⌝ }
     ensures value { λ r. ⌜ r ≡ rule.mailboxAt pointer k ⌝ }
     ensures range { λ r. ⌜ r < 256 ⌝ }
 {
@@ -32,7 +32,7 @@ fn status_byte(low: u8, n: u8) -> u8
 
 // Data bytes, from the place behind the status byte on.
 fn lay(m: &mut [u8; 256], pointer: u8, bytes: &[u8])
-    requires { ⌜ length (now bytes) ≤ 32 ⌝ }
+    requires { ⌜ length (now bytes) ≤ frame.longestData + 2 ⌝ }
     ensures { λ _. ⌜ now (m .exit) ≡ rule.laidFrom (now (m .entry)) pointer 1 (now (bytes .entry)) ⌝ }
 {
     let mut k = 0;
@@ -43,18 +43,18 @@ fn lay(m: &mut [u8; 256], pointer: u8, bytes: &[u8])
     }
 }
 
-// A frame in the mailbox: the status byte, n data bytes behind it, and no other byte. A frame's bytes hold at most 32.
-pub fn store(m: &mut [u8; 256], pointer: u8, bytes: [u8; 34], n: u8)
+// A frame in the mailbox: the status byte, n data bytes behind it, and no other byte. A frame's bytes hold at most DATA_AND_CHECK behind its command.
+pub fn store(m: &mut [u8; 256], pointer: u8, bytes: [u8; line::CODED_BYTES], n: u8)
     ensures { λ _. ⌜ now (m .exit) ≡ rule.stored (now (m .entry)) pointer bytes n ⌝ }
 {
     let first = mailbox_at(pointer, 0);
     m[first] = status_byte(bytes[1], n);
-    if n < 32 {
+    if n < line::DATA_AND_CHECK {
         let end = 2 + n as usize;
         lay(m, pointer, &bytes[2..end]);
         return;
     }
-    lay(m, pointer, &bytes[2..34]);
+    lay(m, pointer, &bytes[2..line::CODED_BYTES]);
 }
 
 // ---- the frame that a channel sends
@@ -62,27 +62,27 @@ pub fn store(m: &mut [u8; 256], pointer: u8, bytes: [u8; 34], n: u8)
 // The data bytes that a length M_L holds.
 fn data_in(length: u8) -> u8
     ensures value { λ r. ⌜ r ≡ rule.dataIn length ⌝ }
-    ensures range { λ r. ⌜ r ≤ 30 ⌝ }
+    ensures range { λ r. ⌜ r ≤ frame.longestData ⌝ }
 {
     if length == 0 {
         return 0;
     }
-    (length - 1) % 31
+    (length - 1) % line::COUNTS
 }
 
 // Identifier and command as two bytes, and zeros.
-fn headed(high: u8, low: u8) -> [u8; 34]
-    ensures { λ r. ⌜ r ≡ (channel.twelve high low / 16) ∷ (channel.twelve high low % 16 * 16 + low % 16) ∷ replicate 32 0 ⌝ }
+fn headed(high: u8, low: u8) -> [u8; line::CODED_BYTES]
+    ensures { λ r. ⌜ r ≡ (channel.twelve high low / 16) ∷ (channel.twelve high low % 16 * 16 + low % 16) ∷ replicate (frame.longestData + 2) 0 ⌝ }
 {
-    let mut bytes = [0u8; 34];
+    let mut bytes = [0u8; line::CODED_BYTES];
     bytes[0] = high;
     bytes[1] = low;
     bytes
 }
 
 // The n data bytes behind a pointer, into a frame's bytes.
-fn copy(bytes: &mut [u8; 34], m: &[u8; 256], pointer: u8, n: u8)
-    requires { ⌜ n ≤ 30 ⌝ }
+fn copy(bytes: &mut [u8; line::CODED_BYTES], m: &[u8; 256], pointer: u8, n: u8)
+    requires { ⌜ n ≤ frame.longestData ⌝ }
     ensures { λ _. ⌜ now (bytes .exit) ≡ sets (now (bytes .entry)) 2 (rule.mailboxBytes (now (m .entry)) pointer 1 n) ⌝ }
 {
     let mut k = 0;
@@ -94,8 +94,8 @@ fn copy(bytes: &mut [u8; 34], m: &[u8; 256], pointer: u8, n: u8)
 }
 
 // The check as two bytes behind the data, a zero bit behind it.
-fn sealed(bytes: [u8; 34], n: u8) -> [u8; 34]
-    requires { ⌜ n ≤ 30 ⌝ }
+fn sealed(bytes: [u8; line::CODED_BYTES], n: u8) -> [u8; line::CODED_BYTES]
+    requires { ⌜ n ≤ frame.longestData ⌝ }
     ensures { λ r. ⌜ r ≡ set (set bytes (n + 2) (check.check (frame.byteBits (take (n + 2) bytes)) / 128)) (n + 3) (check.check (frame.byteBits (take (n + 2) bytes)) % 128 * 2) ⌝ }
 {
     let end = n as usize + 2;

@@ -40,7 +40,7 @@ pub fn quiet() -> Reception
         place: at_place(Phase::Quiet, 0),
         nibbles: 0,
         bits: 0,
-        bytes: [0u8; 34],
+        bytes: [0u8; line::CODED_BYTES],
         winner: nobody(),
     }
 }
@@ -87,10 +87,10 @@ fn with_low_half(byte: u8, nibble: u8) -> u8
 }
 
 // The bytes with nibble k, high half first.
-fn with_nibble(bytes: [u8; 34], k: u8, nibble: u8) -> [u8; 34]
+fn with_nibble(bytes: [u8; line::CODED_BYTES], k: u8, nibble: u8) -> [u8; line::CODED_BYTES]
     ensures { λ r. ⌜ r ≡ rule.withNibble bytes k nibble ⌝ }
 {
-    let i = (k / 2 % 34) as usize;
+    let i = (k / 2) as usize % line::CODED_BYTES;
     let mut t = bytes;
     if k % 2 == 0 {
         t[i] = nibble % 16 * 16;
@@ -100,14 +100,14 @@ fn with_nibble(bytes: [u8; 34], k: u8, nibble: u8) -> [u8; 34]
     t
 }
 
-// One nibble more; the count stops at its largest, 67.
+// One nibble more; the count stops at its largest.
 fn more_nibbles(n: u8) -> u8
     ensures { λ r. ⌜ r ≡ rule.moreNibbles n ⌝ }
 {
-    if n < 67 {
+    if n < line::MOST_NIBBLES {
         return n + 1;
     }
-    67
+    line::MOST_NIBBLES
 }
 
 // The four bits that were taken, laid behind the whole nibbles.

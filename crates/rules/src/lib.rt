@@ -89,7 +89,7 @@ pub struct Reception {
     pub place: Place,
     pub nibbles: u8,
     pub bits: u8,
-    pub bytes: [u8; 34],
+    pub bytes: [u8; line::CODED_BYTES],
     pub winner: Winner,
 }
 
@@ -119,7 +119,7 @@ pub struct Attempts(pub u32);
 // A frame to be sent: n data bytes, and identifier, command, data and check as bytes, with a zero bit behind the check.
 pub struct Coded {
     pub n: u8,
-    pub bytes: [u8; 34],
+    pub bytes: [u8; line::CODED_BYTES],
 }
 
 // Resting: no service. Waiting: between attempts. Opening: a first level answered and not sampled. Sending: in an attempt.

@@ -2,10 +2,11 @@
 --   capacity == the most data bytes of a frame that the state has room for        longestOf == the most that a controller takes and sends
 --   mostNibbles == the whole nibbles before the check's last three bits, for so many data bytes
 use Prim.Native.Nat.{ℕ, _+_, _*_}
+use Rattle.line.specs.Frame.{longestData}
 use Rattle.rules.specs.declared.Core.{Core}
 
 abbrev pub capacity : ℕ
-capacity = 30
+capacity = longestData
 
 -- every rule asks the state for it
 abbrev pub longestOf : Core → ℕ
