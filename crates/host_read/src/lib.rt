@@ -67,7 +67,7 @@ fn read_on(m: &[u8; 256], k: Core, address: u16) -> CoreOutcome
     }
     if Map::reserved(a) {
         return CoreOutcome {
-            reply: Reply::Refused(Refusal::Unreadable),
+            reply: Reply::Refused(Refusal::Unreadable), // 4, as write only
             next: k,
         };
     }
