@@ -1,10 +1,22 @@
--- Every promise, on one page: first in words (quoted from the demands or from 01), then exactly. The proofs stand in proofs/, here and in the crates below.
--- What the calls do is said in their own contracts, by the definitions that are used here:
+-- The promises on the definitions, on one page: first in words (quoted from the demands or from 01), then exactly. The proofs stand in proofs/, here and in the crates below.
+-- Not on this page: what the code does. Each call says that in its own contract, by the definitions that are used here:
 --   controller: each call's answer is `step` of its event, for every controller, in range or not (crates/access, crates/controller); the same over a lent map
---     (crates/host, crates/host_read, crates/slots)
+--     (crates/host, crates/host_read, crates/slots); `fresh`, `interruptLine` (crates/controller, crates/status)
 --   codec: `encoded`, `encodedRoom` (crates/encoder); `decoded`, `decodedRoom` of `reading` (crates/decoder)
 --   session: `headerAt`, `eventAt`, `endAt` (crates/session), of which `session` is made; its numbers: `decode` (crates/leb128)
---   listing: `played`, `playedRoom` of `listingOf` (crates/player); its first lines (crates/bench_record); for C: crates/frapmast
+--   listing: `played`, `playedRoom` of `listingOf` (crates/player); for C: crates/frapmast
+-- Nor the first lines of a listing (crates/bench_record), and the numbers and sessions that 01 runs (Cases in crates/leb128 and crates/session).
+--
+-- Legend. The notation is antt's; `rt doc` prints the path of the toolchain's guide, and guides/primer.md beside it has the language.
+--   (x : A) → B        for every x of A, B holds        A → B: if A, then B        A → ⊥: A does not hold
+--   A × B              A and B; for some x, where it is (x : A) × B        A ↔ B: each if the other
+--   x ≡ y              x equals y; true and false are values: `matches .. ≡ true` says that the test holds
+--   [], x ∷ s          the empty list; the list of x and then those of s        s ++ t: those of s, then those of t
+--   f .name            the field `name` of f        .0, .1: the first and second part of a pair; .0 is also the number that Timeslots and Attempts hold
+--   pick b x y         x if b is true, else y
+--   getD s k d         element k of s, from 0; d where s has none        ltb k n: k is below n        a - b: 0 where b is larger
+--   record R where     a claim whose fields are its parts: R holds if all of them do
+--   unfoldable, abbrev marks for proofs, which say where a definition may be replaced by its text; they do not change what it says
 use Prim.Native.Nat.{ℕ, _+_, _-_, _*_, _/_, _%_, _≤_, _<_}
 use mathlib.Core.Bool.{true, false}
 use mathlib.Core.List.{List, [], _∷_, _++_}
@@ -135,14 +147,27 @@ pub record Storing : Type 0 where
 
 pub record Receiving : Type 0 where
   -- "a valid frame that an active controller takes from another module": in the slot in which its samples decode to a frame that frame is delivered, and in no other does a mailbox byte change;
-  -- a fault is heard only where they can decode to no valid frame (specs/Decoded.antt)
+  -- a fault is heard only where they can decode to no valid frame (specs/Decoded.antt). Of each accepted slot of an active controller that receives another module's frame:
+  --   taken: where the samples since the frame's start decode to f, f is valid, they are its slots and no other frame's, it ends here, and the memory map changes by `received`
+  --   good: where a frame ends here as good, the samples decode to one        early: where they decode to none, no mailbox byte changes
+  --   fault: where a fault is heard, the samples decode to no valid frame, whatever follows them
   pub delivered : (es : List Event) → Decoded fresh noLog es
   -- the receiver begun by a dominant slot takes a slot list exactly if it decodes to a valid frame, for every longest length that the state has room for (specs/Agree.antt)
   pub sound : (longest : ℕ) → longest ≤ capacity → (m s : List ℕ) → Below 2 s → agree.receives longest m begun s ≡ true → agree.Accepted longest m (0 ∷ s)
   pub complete : (longest : ℕ) → longest ≤ capacity → (m s : List ℕ) → Below 2 s → agree.Accepted longest m (0 ∷ s) → agree.receives longest m begun s ≡ true
   -- "Matched and fitting, RAK 1, DRAK 0, check right: the model drives the acknowledge", and no other dominant level where it isn't the sender
-  -- (Acknowledges in crates/rules/specs/Statements/Receiving.antt); and a closed run in which it is driven and the frame stored
+  -- (crates/rules/specs/Statements/Receiving.antt). Before each event and after the last one (Acknowledges):
+  --   only: where the model drives dominant and is not the sender, the samples are the slots of a valid frame that is owed an acknowledge, up to it, and one more, its first slot
+  --   due: where nine slots are to come of a frame that is owed one, the model drives dominant
+  -- Of each accepted slot of an active controller, whoever sends (Heeds):
+  --   begins: with no frame under way a dominant sample begins one where the line takes a start        kept: a frame that follows stays under way, unless the controller becomes idle
+  --   mailbox: no mailbox byte changes, unless the model receives
+  -- Of such a slot in which the model receives (Delivers):
+  --   good: where a frame ends here as good, the samples are a whole valid frame, the memory map changes by `received` of it, and 0x07 is BOV if it does not fit, else as it was
+  --   complete: where the samples are a whole frame, it ends here as good        faultless: where a fault is heard, no valid frame begins with the samples
+  --   silent: the slot is never taken for a quiet line        early: where no frame ends here as good, no mailbox byte changes
   pub acknowledged : (es : List Event) → ReceivingOver fresh noLog es
+  -- a closed run: the acknowledge is driven and the frame stored; and the claim above once more
   pub closed : rules.Receiving
   -- "The model's own frame .. is not stored, touches no receiving channel and is never acknowledged by the model" (crates/rules/specs/Statements/OwnFrames.antt)
   pub own : OwnFrames
@@ -157,7 +182,11 @@ pub record Sending : Type 0 where
   -- "each event gets the controller that the last one left"
   pub chained : (c : Controller) (es : List Event) (e : Event) → after c (es ++ (e ∷ [])) ≡ step (after c es) e .next
   -- for every list of events: one fixed frame of which each attempt drives an opening part, at most R + 1 errors, TE exactly at R + 1, at most
-  -- (C + R + 1) × (60 + 10n) slots, by the tally's own count (SendingOver and Claim in crates/rules/specs/Statements/Sending.antt, the tally in Tally.antt)
+  -- (C + R + 1) × (60 + 10n) slots, by the tally's own count (SendingOver and Claim in crates/rules/specs/Statements/Sending.antt, the tally in Tally.antt). Of each event:
+  --   fits: the frame of the service under way is a frame no longer than the controller sends
+  --   driven: in an accepted slot of an attempt, the levels driven in it, that of this slot included, begin the frame's slots, or those from the eleventh on where it joined
+  --   errors: at most R + 1 attempts of the service have ended in error        slots: at most (C + R + 1) × (60 + 10n) slots were spent in its attempts
+  --   raised: where R + 1 errors are counted, TE is 1 after the event        only: where the event turns TE from 0 to 1, R + 1 errors are counted
   pub kept : (es : List Event) → SendingOver fresh none es
   -- closed runs with their figures for C, errors and slots: sent, exhausted, lost twice, joined, aborted
   pub runs : rules.Runs

@@ -1,4 +1,5 @@
-// Every promise of the model; the page itself is specs/Claims.antt. No code runs here: each function's contract states a part of the page.
+// The promises on the definitions; the page itself is specs/Claims.antt. No code runs here: each function's contract states a part of the page.
+// What the calls and the codec's code do is said in their own contracts, which the head of the page lists.
 ghost use Rattle.claims.specs.Claims as claims;
 
 // Holds the numbers refused, and that a refusal changes nothing; it does nothing.
