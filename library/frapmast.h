@@ -1,5 +1,6 @@
 /* The frame codec and the bench player for C. The functions are proved in crates/frapmast; `library/run` builds the
-   archive, target/staticlib/libfrapmast.a (x86-64 Linux; it needs only memcpy and memset).
+   archive, target/staticlib/libfrapmast.a, and links target/library/libfrapmast.so from it (x86-64 Linux; of the C
+   library they need at most memcpy and memset). library/example.py calls libfrapmast.so from Python.
 
    How to call
    - Bytes are passed as a pointer and a length. No pointer may be null, not even where the length is 0: point anywhere.
