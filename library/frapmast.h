@@ -8,8 +8,10 @@
    - A room is lent: the call writes its answer at the front, and what lies behind the answer keeps its bytes.
    - acknowledge must be true or false, as <stdbool.h> makes them.
    - Every other argument may have any value. Nothing is kept between calls, so threads may call at the same time.
-   The proof takes the first two and the fourth for granted: Rattle's types have no null, no overlap and no third truth
-   value, and nothing can test them from inside.
+   - FRAPMAST_STACK bytes of stack are enough for any call. This is measured and not proved: library/stack.c finds about
+     200 bytes for encode, 3,400 for decode and 1,600 for play, at most.
+   The proof takes the first two, the fourth and the last for granted: Rattle's types have no null, no overlap and no third
+   truth value, its proofs know no end of the stack, and nothing can test them from inside.
 
    What is answered: 0, or the number of the rule that was broken. A refused call writes zero to count, length or head
    and nothing to the room.
@@ -33,6 +35,7 @@ extern "C" {
 #define FRAPMAST_MOST_BYTES 30       /* data bytes of a frame, at most */
 #define FRAPMAST_MOST_SLOTS 360      /* slots of a frame, at most: 60, and 10 for each data byte */
 #define FRAPMAST_MOST_LISTING 327840 /* room that holds the listing of any session */
+#define FRAPMAST_STACK 8192          /* bytes of stack that are enough for any call */
 
 /* A frame to its slots, one byte a slot: 1 recessive, 0 dominant. Command is EXT RAK R/W RTR as four bits.
    0, and count is the number of slots written; or 10, 11, 12, 13, judged in this order. */
@@ -45,8 +48,8 @@ uint8_t frapmast_decode(const uint8_t *slots, size_t slots_length, uint8_t *room
                         uint16_t head[4]);
 
 /* A recorded session to its listing, text with no zero byte at its end. 0, and length is the listing's; or 13. A broken
-   session has a listing too: its last line is `bad N at P`. The call needs about 335,000 bytes of stack, whatever the
-   room. */
+   session has a listing too: its last line is `bad N at P`. In room of less than FRAPMAST_MOST_LISTING bytes the session
+   is played twice, first for the listing's length, and the call takes two to three times as long. */
 uint8_t frapmast_play(const uint8_t *session, size_t session_length, uint8_t *room, size_t room_length,
                       size_t *length);
 

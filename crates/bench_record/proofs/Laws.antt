@@ -102,7 +102,7 @@ pub stepped : {room text now after : List ℕ} {at place p : ℕ} (c c′ : Cont
     → Goes room at text after p (body c′ (index + 1) count (eventsAt (count - (index + 1)) s next))
 stepped c c′ s count index from g h i d l = rw d (laid-on (other-rest (next-line c s count index from h i) g) l)
 
--- ---- the whole listing, in room that holds it, and in room aside
+-- ---- the whole listing, in room that holds it or not; a text made aside
 
 pub listed : (room text after : List ℕ) (n : ℕ) → n ≤ length room → Laid room 0 text after n → (Listed n ≡ played (length room) text) × (after ≡ playedRoom room text)
 unfolding played playedRoom
@@ -112,19 +112,18 @@ listed room text after n h l =
     let g : sets room 0 text ≡ text ++ drop (length text) room = sets-eq text room 0 (omega arith) ∙ rw zero-add in
     (rw (f, e), rw f (l .room ∙ g))
 
-pub unlisted : (room text aside after : List ℕ) (n : ℕ) → length room < n → Laid aside 0 text after n → (Short ≡ played (length room) text) × (room ≡ playedRoom room text)
+pub unlisted : (room text : List ℕ) (n : ℕ) → length room < n → n ≡ length text → (Short ≡ played (length room) text) × (room ≡ playedRoom room text)
 unfolding played playedRoom
-unlisted room text aside after n h l =
-    let e : n ≡ length text = l .behind ∙ zero-add (length text) in
+unlisted room text n h e =
     let f : ltb (length room) (length text) ≡ true = lt-ltb (length room) (length text) (omega arith) in
     (rw f, rw f)
 
-pub copied : (room text aside after : List ℕ) (n : ℕ) → n ≤ length aside → Laid aside 0 text after n → (copy : List ℕ) → copy ≡ sets room 0 (take n after) → Laid room 0 text copy n
-copied room text aside after n h l copy c =
+pub copied : (room text aside after copy : List ℕ) (at n r : ℕ) → n ≤ length aside → Laid aside 0 text after n → Laid room at (take n after) copy r → Laid room at text copy r
+copied room text aside after copy at n r h l c =
     let e : n ≡ length text = l .behind ∙ zero-add (length text) in
     let g : after ≡ text ++ drop (length text) aside = l .room ∙ sets-eq text aside 0 (omega arith) ∙ rw zero-add in
     let k : take n after ≡ text = rw (g, e) (take-append-seam text (drop (length text) aside)) in
-    record { room = c ∙ rw k; behind = l .behind }
+    rw k at c
 
 -- ---- no count is above the largest
 

@@ -1,8 +1,7 @@
 // The bench player: a session's bytes in, its listing out (01, Session and listing).
 ghost use mathlib.Core.Path.{_≡_};
 ghost use Prim.Native.Nat.{_+_, _*_, _≤_};
-ghost use lib.ListN.{length};
-ghost use lib.Seq.{sets};
+ghost use lib.ListN.{length, set};
 ghost use Rattle.session.specs.Reading as reading;
 ghost use Rattle.rules.specs.Definitions.Run as run;
 ghost use Rattle.rules.specs.Definitions.Answers as answers;
@@ -30,6 +29,61 @@ struct Step {
 // Room for any listing: 4,096 events, a line before them and one behind.
 pub const ROOM: usize = 327840;
 
+// Room for any line.
+const LINE: usize = 80;
+
+// ---- a text in room that may end before it: what the room has no place for is left out, and counted
+
+// A byte, as by `set`: with no such place nothing is written.
+fn put(room: &mut [u8], at: usize, b: u8)
+    ensures { λ _. ⌜ now (room .exit) ≡ set (now (room .entry)) at b ⌝ }
+{
+    if at < room.len() {
+        room[at] = b;
+    }
+}
+
+// A text; the answer is the place behind it.
+fn lay(room: &mut [u8], at: usize, text: &[u8]) -> usize
+    requires { ⌜ at + length (now text) ≤ 327840 ⌝ }
+    ensures { λ r. ⌜ Laid (now (room .entry)) at (now (text .entry)) (now (room .exit)) r ⌝ }
+{
+    let mut k = 0;
+    while k < text.len() {
+        put(room, at + k, text[k]);
+        k += 1;
+    }
+    at + k
+}
+
+// An event's line. In room that may be too short it is made aside.
+fn lay_line(room: &mut [u8], at: usize, index: u16, e: Event, refused: u8, value: u8) -> usize
+    requires { ⌜ at + text.longestLine ≤ 327840 ⌝ }
+    ensures laid { λ r. ⌜ Laid (now (room .entry)) at (text.line index e refused value) (now (room .exit)) r ⌝ }
+    ensures bound { λ r. ⌜ r ≤ at + text.longestLine ⌝ }
+{
+    if ROOM <= room.len() {
+        return listing::put_line(room, at, index, e, refused, value);
+    }
+    let mut aside = [0; LINE];
+    let n = listing::put_line(&mut aside, 0, index, e, refused, value);
+    lay(room, at, &aside[..n])
+}
+
+// A line before or behind those of the events, likewise.
+fn lay_edge(room: &mut [u8], at: usize, l: Edge) -> usize
+    requires { ⌜ at + text.longestLine ≤ 327840 ⌝ }
+    ensures laid { λ r. ⌜ Laid (now (room .entry)) at (text.edgeLine l) (now (room .exit)) r ⌝ }
+    ensures bound { λ r. ⌜ r ≤ at + text.longestLine ⌝ }
+{
+    if ROOM <= room.len() {
+        return listing::put_edge(room, at, l);
+    }
+    let mut aside = [0; LINE];
+    let n = listing::put_edge(&mut aside, 0, l);
+    lay(room, at, &aside[..n])
+}
+
 // ---- an event
 
 // A mark has no effect.
@@ -50,7 +104,7 @@ fn answer(m: &mut [u8; 256], k: Core, e: Event) -> CoreOutcome
 
 // An event, and its line at a place.
 fn play_event(m: &mut [u8; 256], k: Core, index: u16, e: Event, room: &mut [u8], at: usize) -> Step
-    requires { ⌜ at + text.longestLine ≤ length (now room) ⌝ }
+    requires { ⌜ at + text.longestLine ≤ 327840 ⌝ }
     ensures state { λ r. ⌜ answers.controller (now (m .exit)) (r .core) ≡ (rule.answerTo (answers.controller (now (m .entry)) k) e) .next ⌝ }
     ensures laid { λ r. ⌜ Laid (now (room .entry)) at (text.line index e ((rule.answerTo (answers.controller (now (m .entry)) k) e) .refused) ((rule.answerTo (answers.controller (now (m .entry)) k) e) .value)) (now (room .exit)) (r .place) ⌝ }
     ensures bound { λ r. ⌜ r .place ≤ at + text.longestLine ⌝ }
@@ -58,7 +112,7 @@ fn play_event(m: &mut [u8; 256], k: Core, index: u16, e: Event, room: &mut [u8],
     let a = answer(m, k, e);
     let reply = a.reply;
     let core = a.next;
-    let place = listing::put_line(room, at, index, e, refused_by(reply), value_of(reply));
+    let place = lay_line(room, at, index, e, refused_by(reply), value_of(reply));
     Step { core, place }
 }
 
@@ -66,19 +120,19 @@ fn play_event(m: &mut [u8; 256], k: Core, index: u16, e: Event, room: &mut [u8],
 
 // What follows the last event.
 fn put_closing(s: &[u8], from: usize, count: u16, room: &mut [u8], at: usize) -> usize
-    requires { ⌜ at + text.longestLine ≤ length (now room) ⌝ }
+    requires { ⌜ at + text.longestLine ≤ 327840 ⌝ }
     ensures laid { λ r. ⌜ Laid (now (room .entry)) at (rule.closing count (reading.endAt (now (s .entry)) from)) (now (room .exit)) r ⌝ }
     ensures bound { λ r. ⌜ r ≤ at + text.longestLine ⌝ }
 {
     match session::end_at(s, from) {
-        End::Clean => listing::put_edge(room, at, Edge::End(count)),
-        End::Bad(f, p) => listing::put_edge(room, at, Edge::Bad(session::fault_number(f), p)),
+        End::Clean => lay_edge(room, at, Edge::End(count)),
+        End::Bad(f, p) => lay_edge(room, at, Edge::Bad(session::fault_number(f), p)),
     }
 }
 
 // The events, each with the controller that the last one left, and what closes the listing.
 fn play_events(s: &[u8], count: u16, first: usize, room: &mut [u8], at: usize) -> usize
-    requires { ⌜ at + 80 * count + 80 ≤ length (now room) ⌝ }
+    requires { ⌜ at + 80 * count + 80 ≤ 327840 ⌝ }
     ensures laid { λ r. ⌜ Laid (now (room .entry)) at (rule.body run.fresh 0 count (reading.eventsAt count (now (s .entry)) first)) (now (room .exit)) r ⌝ }
     ensures bound { λ r. ⌜ r ≤ at + 80 * count + 80 ⌝ }
 {
@@ -90,11 +144,7 @@ fn play_events(s: &[u8], count: u16, first: usize, room: &mut [u8], at: usize) -
     let mut index = 0u16;
     while index < count {
         match reading_place::event_from(s, from) {
-            Item::Bad(f, p) => return listing::put_edge(
-                room,
-                place,
-                Edge::Bad(session::fault_number(f), p),
-            ),
+            Item::Bad(f, p) => return lay_edge(room, place, Edge::Bad(session::fault_number(f), p)),
             Item::Next(e, next) => {
                 let x = play_event(&mut m, k, index, e, room, place);
                 k = x.core;
@@ -107,51 +157,40 @@ fn play_events(s: &[u8], count: u16, first: usize, room: &mut [u8], at: usize) -
     put_closing(s, from, count, room, place)
 }
 
-// The listing, in room for any.
+// The listing, or as much of it as the room has places for; the answer is the place behind all of it.
 fn put_listing(s: &[u8], room: &mut [u8]) -> usize
-    requires { ⌜ 327840 ≤ length (now room) ⌝ }
     ensures laid { λ r. ⌜ Laid (now (room .entry)) 0 (rule.listingOf (now (s .entry))) (now (room .exit)) r ⌝ }
     ensures bound { λ r. ⌜ r ≤ 327840 ⌝ }
 {
     match session::header_at(s, 0) {
-        Header::Bad(f, p) => listing::put_edge(room, 0, Edge::Bad(session::fault_number(f), p)),
+        Header::Bad(f, p) => lay_edge(room, 0, Edge::Bad(session::fault_number(f), p)),
         Header::Good(count, next) => {
-            let at = listing::put_edge(room, 0, Edge::Count(count));
+            let at = lay_edge(room, 0, Edge::Count(count));
             play_events(s, count, next, room, at)
         }
     }
 }
 
-// ---- lent room that may be short
+// ---- lent room
 
-fn space() -> [u8; ROOM]
-    ensures { λ r. ⌜ 327840 ≡ length r ⌝ }
+// The listing's length: it is laid in no room.
+fn listing_length(s: &[u8]) -> usize
+    ensures { λ r. ⌜ r ≡ length (rule.listingOf (now (s .entry))) ⌝ }
 {
-    [0; ROOM]
+    let mut none = [0; 0];
+    put_listing(s, &mut none)
 }
 
-fn copy(room: &mut [u8], text: &[u8])
-    requires { ⌜ length (now text) ≤ length (now room) ⌝ }
-    ensures { λ _. ⌜ now (room .exit) ≡ sets (now (room .entry)) 0 (now (text .entry)) ⌝ }
-{
-    let mut k = 0;
-    while k < text.len() {
-        room[k] = text[k];
-        k += 1;
-    }
-}
-
-// In room that may be too short for the listing: it is made aside, so that a refusal writes nothing.
-fn play_aside(s: &[u8], room: &mut [u8]) -> Played
+// In room that may be too short: first for the listing's length alone, so that a refused call writes nothing.
+fn play_twice(s: &[u8], room: &mut [u8]) -> Played
     ensures answer { λ r. ⌜ r ≡ rule.played (length (now (room .entry))) (rule.listingOf (now (s .entry))) ⌝ }
     ensures room { λ r. ⌜ now (room .exit) ≡ rule.playedRoom (now (room .entry)) (rule.listingOf (now (s .entry))) ⌝ }
 {
-    let mut aside = space();
-    let n = put_listing(s, &mut aside);
+    let n = listing_length(s);
     if room.len() < n {
         return Played::Short;
     }
-    copy(room, &aside[..n]);
+    put_listing(s, room);
     Played::Listed(n)
 }
 
@@ -161,7 +200,7 @@ pub fn play(s: &[u8], room: &mut [u8]) -> Played
     ensures room { λ r. ⌜ now (room .exit) ≡ rule.playedRoom (now (room .entry)) (rule.listingOf (now (s .entry))) ⌝ }
 {
     if room.len() < ROOM {
-        return play_aside(s, room);
+        return play_twice(s, room);
     }
     let n = put_listing(s, room);
     Played::Listed(n)

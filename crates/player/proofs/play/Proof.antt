@@ -9,7 +9,7 @@ play-spec =
     tie.close (tie.spec
     (λ c κs. tt)
     (λ c. search needs)
-    (λ c. c .before .before .play-aside .ensures)
-    (λ c κs. omega arith)
+    (λ c. c .before .before .play-twice .ensures)
+    (λ c κs. tt)
     (λ c. search needs)
     (λ c. listed (c .before .before .before .before .before .before .before .args .room .now) _ _ _ (let b = c .before .before .put-listing .ensures .1 in omega arith) (c .before .before .put-listing .ensures .0)))

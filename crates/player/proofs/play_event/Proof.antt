@@ -1,7 +1,5 @@
 use native.Mathlib.Omega.{arith}
 use Rattle.bench_record.proofs.Laws.{event-laid, event-next}
-use Rattle.listing.specs.Listing.{line}
-use Rattle.listing.proofs.Laws.{line-laid}
 use Rattle.player.proofs.play_event.Statement.{statement}
 use Rattle.player.proofs.play_event.Tie as tie
 
@@ -11,12 +9,12 @@ play-event-spec =
     (λ c κs. tt)
     (λ c κs. tt)
     (λ c κs. tt)
-    (λ c κs. tt)
+    (λ c κs. omega arith)
     (λ c. omega arith)
     (λ c. let x = c .before .before .before .before .before .before .before .before .before .before .args in (
       event-next _ _ _ (c .before .before .before .before .before .before .before .answer .ensures),
       (
-        event-laid _ _ _ (c .before .before .before .before .before .before .before .answer .ensures) _ _ (c .before .before .before .before .refused-by .ensures) (c .before .before .before .value-of .ensures) (x .room .now) (x .at) (x .index) (x .e) _ _ (line-laid {room = x .room .now} {text = line (x .index) (x .e) (c .before .before .before .before .refused-by .result) (c .before .before .before .value-of .result)} {at = x .at} (omega arith) (c .before .before .put-line .ensures .0) (c .before .before .put-line .ensures .1 .0)),
-        c .before .before .put-line .ensures .1 .1,
+        event-laid _ _ _ (c .before .before .before .before .before .before .before .answer .ensures) _ _ (c .before .before .before .before .refused-by .ensures) (c .before .before .before .value-of .ensures) (x .room .now) (x .at) (x .index) (x .e) _ _ (c .before .before .lay-line .ensures .0),
+        c .before .before .lay-line .ensures .1,
       ),
     )))

@@ -6,7 +6,6 @@ use lib.ListN.{length}
 use Rattle.session.specs.Reading.{eventsAt}
 use Rattle.rules.specs.Definitions.Run.{fresh}
 use Rattle.rules.specs.Definitions.Answers.{controller}
-use Rattle.listing.proofs.Laws.{line-laid}
 use Rattle.bench_record.specs.Record.{body}
 use Rattle.bench_record.proofs.Laws.{Goes, begun, other-rest, first-rest, bad-line, bad-laid, stepped, last-line, laid-all}
 use Rattle.player.proofs.Indices.{step-fits}
@@ -29,13 +28,13 @@ play-events-spec =
     (λ c κs. tt)
     (λ c. search needs)
     (λ c κs. tt)
-    (λ c κs. tt)
+    (λ c κs. omega arith)
     (λ c. omega arith)
     (λ c. let x = c .before .before .before .before .before .before .before .before .before .before .before .before .before .before .before .before .args in
     let l = c .before .before .before .before .before .before .before .before .before .before .loop in (
       bad-laid _ _ _ (l .inv .3) (bad-line (controller (l .m) (l .k)) (x .s .now) (x .count) (l .index) (l .from) (c .before .before .before .before .before .before .before .before .before .loop-test .taken) (sym (c .before .before .before .before .before .before .before .before .event-from .ensures) ∙ c .before .before .before .before .before .before .f .given .1)) (c .before .before .before .fault-number .ensures)
-          (line-laid {room = l .room} {at = l .place} (omega arith) (c .before .before .put-edge .ensures .0) (c .before .before .put-edge .ensures .1 .0)),
-      (let b = c .before .before .put-edge .ensures .1 .1 in omega arith),
+          (c .before .before .lay-edge .ensures .0),
+      (let b = c .before .before .lay-edge .ensures .1 in omega arith),
     ))
     (λ c. search needs)
     (λ c κs. omega arith)

@@ -1,7 +1,6 @@
 use mathlib.Core.Path.{sym, _∙_}
 use native.Mathlib.Omega.{arith}
 use borrow.Author.Needs.{needs}
-use Rattle.listing.proofs.Laws.{line-laid}
 use Rattle.bench_record.proofs.Laws.{count-most, header-bad, header-good}
 use Rattle.player.proofs.put_listing.Statement.{statement}
 use Rattle.player.proofs.put_listing.Tie as tie
@@ -12,11 +11,11 @@ put-listing-spec =
     (λ c κs. tt)
     (λ c. search needs)
     (λ c κs. tt)
-    (λ c κs. tt)
+    (λ c κs. omega arith)
     (λ c. search needs)
-    (λ c κs. tt)
-    (λ c κs. let m = count-most 4096 (c .before .before .before .before .before .before .before .before .before .before .before .args .s .now) 0 _ _ (sym (c .before .before .before .before .before .before .before .before .header-at .ensures) ∙ c .before .before .before .before .before .before .count .given .1) in let b = c .before .before .before .put-edge2 .ensures .1 .1 in omega arith)
+    (λ c κs. omega arith)
+    (λ c κs. let m = count-most 4096 (c .before .before .before .before .before .before .before .before .before .before .before .args .s .now) 0 _ _ (sym (c .before .before .before .before .before .before .before .before .header-at .ensures) ∙ c .before .before .before .before .before .before .count .given .1) in let b = c .before .before .before .lay-edge2 .ensures .1 in omega arith)
     (λ c. omega arith)
-    (λ c. (header-bad (c .before .before .before .before .before .before .before .before .before .before .before .args .s .now) _ _ _ (sym (c .before .before .before .before .before .before .before .before .header-at .ensures) ∙ c .before .before .before .before .before .before .f .given .1) (c .before .before .before .fault-number .ensures) (line-laid {room = c .before .before .before .before .before .before .before .before .before .before .before .args .room .now} {at = 0} (omega arith) (c .before .before .put-edge .ensures .0) (c .before .before .put-edge .ensures .1 .0)), (let b = c .before .before .put-edge .ensures .1 .1 in omega arith)))
+    (λ c. (header-bad (c .before .before .before .before .before .before .before .before .before .before .before .args .s .now) _ _ _ (sym (c .before .before .before .before .before .before .before .before .header-at .ensures) ∙ c .before .before .before .before .before .before .f .given .1) (c .before .before .before .fault-number .ensures) (c .before .before .lay-edge .ensures .0), (let b = c .before .before .lay-edge .ensures .1 in omega arith)))
     (λ c. omega arith)
-    (λ c. let m = count-most 4096 (c .before .before .before .before .before .before .before .before .before .before .before .before .before .before .args .s .now) 0 _ _ (sym (c .before .before .before .before .before .before .before .before .before .before .before .header-at .ensures) ∙ c .before .before .before .before .before .before .before .before .before .count .given .1) in let b = c .before .before .before .before .before .before .put-edge2 .ensures .1 .1 in let d = c .before .before .play-events .ensures .1 in (header-good (c .before .before .before .before .before .before .before .before .before .before .before .before .before .before .args .s .now) _ _ (sym (c .before .before .before .before .before .before .before .before .before .before .before .header-at .ensures) ∙ c .before .before .before .before .before .before .before .before .before .count .given .1) (line-laid {room = c .before .before .before .before .before .before .before .before .before .before .before .before .before .before .args .room .now} {at = 0} (omega arith) (c .before .before .before .before .before .before .put-edge2 .ensures .0) (c .before .before .before .before .before .before .put-edge2 .ensures .1 .0)) (c .before .before .play-events .ensures .0), omega arith)))
+    (λ c. let m = count-most 4096 (c .before .before .before .before .before .before .before .before .before .before .before .before .before .before .args .s .now) 0 _ _ (sym (c .before .before .before .before .before .before .before .before .before .before .before .header-at .ensures) ∙ c .before .before .before .before .before .before .before .before .before .count .given .1) in let b = c .before .before .before .before .before .before .lay-edge2 .ensures .1 in let d = c .before .before .play-events .ensures .1 in (header-good (c .before .before .before .before .before .before .before .before .before .before .before .before .before .before .args .s .now) _ _ (sym (c .before .before .before .before .before .before .before .before .before .before .before .header-at .ensures) ∙ c .before .before .before .before .before .before .before .before .before .count .given .1) (c .before .before .before .before .before .before .lay-edge2 .ensures .0) (c .before .before .play-events .ensures .0), omega arith)))
