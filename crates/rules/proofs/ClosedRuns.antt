@@ -8,7 +8,7 @@ use Rattle.line.specs.Frame.{slots}
 use Rattle.rules.specs.Definitions.Channels.{lowest, matches}
 use Rattle.rules.specs.Definitions.Slots.{drives}
 use Rattle.rules.specs.Definitions.Run.{fresh, step}
-use Rattle.rules.specs.Statements.Tally.{none}
+use Rattle.rules.specs.Statements.Observer.{atReset}
 use Rattle.rules.specs.Statements.Claims.{Runs}
 use Rattle.rules.specs.Statements.Runs.{Counts, seenOver, setUp, ones, levels, sent, echoed, overdriven, ran, listening, asking, Stored}
 use Rattle.rules.specs.declared.Choice.the-variants.{Lowest}
@@ -16,27 +16,27 @@ use Rattle.rules.specs.declared.Mode.the-variants.{Active}
 use Rattle.rules.specs.declared.Event.the-variants.{Slot, Write}
 
 -- a service that succeeds in its first attempt: 60 slots
-pub success : Counts (seenOver fresh none (setUp ++ (ones 12 ++ echoed)) (Slot 1)) 0 0 60
+pub success : Counts (seenOver fresh atReset (setUp ++ (ones 12 ++ echoed)) (Slot 1)) 0 0 60
 unfolding seenOver setUp ones echoed levels sent
 success = (refl, refl, refl)
 
 -- R = 2: three attempts fail, each in its first slot; the third raises TE
-pub exhausted : Counts (seenOver fresh none (setUp ++ (ones 12 ++ (Slot 1 ∷ (ones 12 ++ (Slot 1 ∷ ones 12))))) (Slot 1)) 0 3 3
+pub exhausted : Counts (seenOver fresh atReset (setUp ++ (ones 12 ++ (Slot 1 ∷ (ones 12 ++ (Slot 1 ∷ ones 12))))) (Slot 1)) 0 3 3
 unfolding seenOver setUp ones
 exhausted = (refl, refl, refl)
 
 -- lost twice in the identifier's first slot, 11 slots each, and then sent
-pub lost-twice : Counts (seenOver fresh none (setUp ++ (ones 12 ++ (overdriven ++ (ones 12 ++ (overdriven ++ (ones 12 ++ echoed)))))) (Slot 1)) 2 0 82
+pub lost-twice : Counts (seenOver fresh atReset (setUp ++ (ones 12 ++ (overdriven ++ (ones 12 ++ (overdriven ++ (ones 12 ++ echoed)))))) (Slot 1)) 2 0 82
 unfolding seenOver setUp ones overdriven echoed levels sent
 lost-twice = (refl, refl, refl)
 
 -- MT 0: another module gives the start sequence, and the attempt joins behind it: 50 slots
-pub join : Counts (seenOver fresh none (setUp ++ (Write 0x01 0x22 ∷ (ones 12 ++ echoed))) (Slot 1)) 0 0 50
+pub join : Counts (seenOver fresh atReset (setUp ++ (Write 0x01 0x22 ∷ (ones 12 ++ echoed))) (Slot 1)) 0 0 50
 unfolding seenOver setUp ones echoed levels sent
 join = (refl, refl, refl)
 
 -- an abort asked in an attempt ends the service with the attempt, here at its fourth slot, in error
-pub abort : Counts (seenOver fresh none (setUp ++ (ones 12 ++ (Slot 0 ∷ Slot 0 ∷ Slot 0 ∷ Write 0x13 0x0C ∷ []))) (Slot 1)) 0 1 4
+pub abort : Counts (seenOver fresh atReset (setUp ++ (ones 12 ++ (Slot 0 ∷ Slot 0 ∷ Slot 0 ∷ Write 0x13 0x0C ∷ []))) (Slot 1)) 0 1 4
 unfolding seenOver setUp ones
 abort = (refl, refl, refl)
 

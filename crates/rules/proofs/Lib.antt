@@ -10,4 +10,5 @@ pub mod Sending
 pub mod Ranges
 pub mod Receiving
 pub mod OwnFrames
+pub mod Observer
 pub mod Interrupts

@@ -1,4 +1,5 @@
 pub mod Frames
+pub mod Beside
 pub mod Join
 pub mod Follow
 pub mod Raised

@@ -12,7 +12,8 @@ use Rattle.rules.specs.Definitions.Answers.{number}
 use Rattle.rules.specs.Definitions.Host.{resetAll, hostWritten, byteRead}
 use Rattle.rules.specs.Definitions.Run.{refuse, accept, unlessRefused, pinReset, hostWrite, hostRead, answered, restedSlot, slot, step, next}
 use Rattle.rules.specs.Statements.Tally.{Tally}
-use Rattle.rules.specs.Statements.Sending.{accepted, seenIn, followIn, seenT, nextT}
+use Rattle.rules.specs.Statements.Observer.{accepted}
+use Rattle.rules.proofs.Sending.Beside.{seenIn, followIn, seenT, nextT}
 use Rattle.rules.specs.declared.Controller.{Controller}
 use Rattle.rules.specs.declared.Answer.{Answer}
 use Rattle.rules.specs.declared.Refusal.{Refusal}
@@ -100,7 +101,7 @@ module _ (c : Controller) (t : Tally) where
   unfolding nextT
   refused-tally e why h = rw (refused-not e why h)
 
-  accepted-so : (e : Event) (value : ℕ) (d : Controller) → step c e ≡ accept value d → accepted c e ≡ true
+  pub accepted-so : (e : Event) (value : ℕ) (d : Controller) → step c e ≡ accept value d → accepted c e ≡ true
   unfolding accepted accept
   accepted-so e value d h = rw h
 

@@ -31,7 +31,7 @@ use Rattle.rules.proofs.Ranges.Bytes.{at-below}
 use Rattle.rules.proofs.Ranges.Reach.{fine-after}
 use Rattle.rules.specs.Statements.Tally.{none}
 use Rattle.rules.proofs.Sending.Follow.{idle-report, choice-flags, isExhausted}
-use Rattle.rules.specs.Statements.Sending.{accepted}
+use Rattle.rules.specs.Statements.Observer.{accepted}
 use Rattle.rules.proofs.Steps as steps
 use Rattle.rules.proofs.Steps.{Step, step-of, refused-next, refused-not, accepted-next}
 use Rattle.rules.specs.Statements.OwnFrames.{sends, verdictIn}

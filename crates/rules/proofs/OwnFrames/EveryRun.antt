@@ -34,7 +34,8 @@ use Rattle.rules.proofs.Sending.Frames.{level-coded}
 use Rattle.rules.specs.Statements.Tally.{Stand, away, between, opening, inside, Tally, none, isAway}
 use Rattle.rules.proofs.Sending.Join.{made, serviceIn, serviceOf}
 use Rattle.rules.proofs.Sending.Follow.{idle-service, follows-reception, stopped-service}
-use Rattle.rules.specs.Statements.Sending.{accepted, nextT}
+use Rattle.rules.specs.Statements.Observer.{accepted}
+use Rattle.rules.proofs.Sending.Beside.{nextT}
 use Rattle.rules.proofs.Sending.Bound.{good-none}
 use Rattle.rules.proofs.Steps as steps
 use Rattle.rules.proofs.Steps.{Step, step-of, refused-next, refused-not, accepted-next}

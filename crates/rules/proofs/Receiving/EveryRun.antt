@@ -32,14 +32,15 @@ use Rattle.rules.specs.Definitions.Slots.{roleIn, heardAs, heard, servic
 use Rattle.rules.specs.Definitions.Host.{resetAll}
 use Rattle.rules.specs.Definitions.Run.{fresh, answered, next}
 use Rattle.rules.specs.Statements.Tally.{Tally, none}
-use Rattle.rules.specs.Statements.Sending.{accepted, nextT}
+use Rattle.rules.specs.Statements.Observer.{accepted}
+use Rattle.rules.proofs.Sending.Beside.{nextT}
 use Rattle.rules.proofs.Sending.Join.{serviceIn, serviceOf}
 use Rattle.rules.proofs.Steps.{Step, refusal, went, rested, step-of, refused-not, accepted-next}
 use Rattle.rules.proofs.Sending.Follow.{follows-activity, follows-reception}
 use Rattle.rules.proofs.Ranges.Limits.{Fine}
 use Rattle.rules.proofs.Ranges.Reach.{fine-fresh, fine-next}
 use Rattle.rules.proofs.Sending.Bound.{good-none}
-use Rattle.rules.proofs.Sending.Demand3.{Joined, joined-next}
+use Rattle.rules.proofs.Sending.Demand3.{Joined, joined-next, joined-fresh}
 use Rattle.rules.specs.Statements.Receiving.{Log, noLog, storedFrame, received, errorAfter, logNext, taker, hears, Taken, Delivers, role, Heeds, DeliversIn, Owing, Acknowledges, ReceivingOver}
 use Rattle.rules.proofs.Roles.{receiver-is, judge-apart, heard-receiver}
 use Rattle.rules.proofs.Receiving.Log.{At, Following, apart, driving, none-wins, receiving, starting}
@@ -412,9 +413,6 @@ from : (c : Controller) (t : Tally) (l : Log) → Logs c l → Joined c t → Fi
 from c t l i j f [] = acknowledged c l i
 from c t l i j f (e ∷ es) =
     (acknowledged c l i, delivers-in c t l i e, from (next c e) (nextT c t e) (logNext c l e) (next-logs c t l i j e (step-of c e)) (joined-next c t j f e (step-of c e)) (fine-next c e f) es)
-
-joined-fresh : Joined fresh none
-joined-fresh = record { service = unfold fresh resetAll resetCore serviceOf serviceIn none in refl; good = good-none }
 
 logs-fresh : Logs fresh noLog
 logs-fresh = record { stands = unfold fresh resetAll resetCore in apart-stands noLog; empty = λ e. refl }

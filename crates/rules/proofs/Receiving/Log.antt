@@ -167,7 +167,7 @@ after-going Done s = unfold settled in resting-going
 
 -- ---- a sample
 
-underway-quiet : (p : Phase) → isUnderWay p ≡ false → p ≡ Quiet
+pub underway-quiet : (p : Phase) → isUnderWay p ≡ false → p ≡ Quiet
 unfolding isUnderWay
 underway-quiet Quiet e = refl
 underway-quiet Start e = absurd (false≢true (sym e))

@@ -24,7 +24,7 @@ use Rattle.rules.specs.Definitions.Slots.{heard, ending, memoryJudged, c
 use Rattle.rules.specs.Definitions.Host.{resetAll, resets, sleeps, modeCommanded, rearCommanded, flagsCleared, coreWritten, serviceAsked, stoppedCore, byteWritten, hostWritten}
 use Rattle.rules.specs.Definitions.Run.{accept, answered, restedSlot, step, next}
 use Rattle.rules.specs.Statements.Tally.{Stand, away, between, opening, inside, Tally, isAway}
-use Rattle.rules.specs.Statements.Sending.{accepted}
+use Rattle.rules.specs.Statements.Observer.{accepted}
 use Rattle.rules.proofs.Sending.Join.{made, serviceIn, serviceOf}
 use Rattle.rules.proofs.Steps.{Step, refusal, reset, wrote, gave, went, rested, refused-next, refused-not, accepted-next}
 use Rattle.rules.proofs.Sending.Demand3.{Joined}
@@ -236,7 +236,7 @@ asked-effort s a v =
     P : Service → Type 0
     P x = x .effort ≡ s .effort
 
-written-reception : (k : Core) (a v : ℕ) → coreWritten k a v .reception ≡ k .reception
+pub written-reception : (k : Core) (a v : ℕ) → coreWritten k a v .reception ≡ k .reception
 unfolding coreWritten modeCommanded idleAsked activated
 written-reception k a v =
     picked P (eqb a command) _ _

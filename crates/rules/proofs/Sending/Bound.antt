@@ -18,12 +18,11 @@ use Rattle.line.specs.Layout.{partOf, halfOf}
 use Rattle.rules.specs.Definitions.Registers.{both, command, transmitControl, autonomous, asksRearbitration}
 use Rattle.rules.specs.Definitions.Channels.{base, cher, lowestReady, channels, ready}
 use Rattle.rules.specs.Definitions.Mailbox.{sentFrame}
-use Rattle.rules.specs.Definitions.Reception.{free, underWay, startEnded}
+use Rattle.rules.specs.Definitions.Reception.{underWay, startEnded}
 use Rattle.rules.proofs.Ranges.Bytes.{fits-ready, setting-small}
 use Rattle.rules.proofs.Matching.Lowest.{found}
 use Rattle.rules.specs.declared.Choice.{Choice}
 use Rattle.rules.specs.declared.Choice.the-variants.{Nothing, Lowest}
-use Rattle.rules.specs.declared.Line.{Line}
 use Rattle.rules.specs.declared.Reception.{Reception}
 use Rattle.rules.specs.Statements.Tally as tally
 use Rattle.rules.specs.Statements.Tally.{Stand, away, between, opening, inside, Tally, none, Verdict, goes, contended, failed, sent, dueLevel, verdict, spentT, judgedAs, countedIn, countedT, givenUp, endedIn, endedT, chosenT, choiceT, chooseIn, chooseT, startIn, startT, isAway, asks, askedIn, askedT, openHalfT, arbitratedT}
@@ -277,18 +276,18 @@ opened-good t start o e g =
       fits = λ x. g .fits (unfold isAway in rw e);
     }
 
-start-good-in : {longest : ℕ} (s : Stand) (t : Tally) (m : List ℕ) (l : Line) (r : Reception) → t .stand ≡ s → Good longest t → Good longest (startIn s t m l r)
+start-good-in : {longest : ℕ} (s : Stand) (t : Tally) (m : List ℕ) (isFree : Bool) (r : Reception) → t .stand ≡ s → Good longest t → Good longest (startIn s t m isFree r)
 unfolding startIn
-start-good-in away t m l r e g = g
-start-good-in between t m l r e g =
+start-good-in away t m isFree r e g = g
+start-good-in between t m isFree r e g =
     pick-good (startEnded r) (opened-good t 10 joined e g)
-    (pick-good (underWay (r .place)) g (pick-good (both (autonomous (getD m transmitControl 0)) (free l)) (opened-good t 0 own e g) g))
-start-good-in (opening start) t m l r e g = g
-start-good-in (inside start levels) t m l r e g = g
+    (pick-good (underWay (r .place)) g (pick-good (both (autonomous (getD m transmitControl 0)) isFree) (opened-good t 0 own e g) g))
+start-good-in (opening start) t m isFree r e g = g
+start-good-in (inside start levels) t m isFree r e g = g
 
-pub after-good : (t : Tally) (m : List ℕ) (longest : ℕ) (a : Bool) (l : Line) (r : Reception) → Below 256 m → Good longest t → Good longest (startT (chooseT t m longest a r) m l r)
+pub after-good : (t : Tally) (m : List ℕ) (longest : ℕ) (a isFree : Bool) (r : Reception) → Below 256 m → Good longest t → Good longest (startT (chooseT t m longest a r) m isFree r)
 unfolding startT chooseT
-after-good t m longest a l r b g = start-good-in (chooseIn (t .stand) t m longest a r .stand) (chooseIn (t .stand) t m longest a r) m l r refl (choose-good-in (t .stand) t m longest a r b g)
+after-good t m longest a isFree r b g = start-good-in (chooseIn (t .stand) t m longest a r .stand) (chooseIn (t .stand) t m longest a r) m isFree r refl (choose-good-in (t .stand) t m longest a r b g)
 
 asking-good : {longest : ℕ} (t : Tally) (a r : Bool) → Good longest t → Good longest (tally.withRear (tally.withAbort t a) r)
 asking-good t a r g = record { errors = g .errors; setting = g .setting; spent = g .spent; stands = g .stands; fits = g .fits }

@@ -1,4 +1,4 @@
--- Demand 3 over every list of events.
+-- Demand 3 over an event, of the tally that is stepped with the controller's own mode, line and frame.
 use Prim.Native.Nat.{ℕ, _+_, _≤_, _%_}
 use mathlib.Core.Bool.{Bool, true, false, false≢true}
 use mathlib.Core.List.{List, [], _∷_}
@@ -11,6 +11,7 @@ use Rattle.line.specs.Bits.{pick, Below}
 use Rattle.line.specs.Frame.{Fits}
 use Rattle.rules.specs.Definitions.Registers.{resetReport}
 use Rattle.rules.specs.Definitions.Mailbox.{coded}
+use Rattle.rules.specs.Definitions.Reception.{free}
 use Rattle.rules.specs.Definitions.Attempt.{levelAt, judge, drivesFrame, isDriving, atStage, isBetween, betweenAttempts}
 use Rattle.rules.specs.Definitions.Service.{roleOf, resting, stopped, endingOf, settled}
 use Rattle.rules.specs.Definitions.Longest.{capacity, longestOf}
@@ -24,7 +25,9 @@ use Rattle.rules.proofs.Sending.Follow.{isExhausted, te-judged, follows
 use Rattle.rules.proofs.Sending.Raised.{exhausted-between, exhausted-is}
 use Rattle.rules.proofs.Ranges.Reach.{fine-fresh, fine-next}
 use Rattle.rules.specs.Statements.Tally.{Stand, away, between, opening, inside, Tally, none, countedT, endedT, askedT, isAway}
-use Rattle.rules.specs.Statements.Sending.{accepted, seenIn, followIn, afterSlot, seenT, nextT, Drives, InSlot, te, Claim, SendingOver}
+use Rattle.rules.specs.Statements.Observer.{accepted}
+use Rattle.rules.specs.Statements.Sending.{Drives, InSlot, te}
+use Rattle.rules.proofs.Sending.Beside.{seenIn, followIn, afterSlot, seenT, nextT, Holds}
 use Rattle.rules.proofs.Sending.Frames.{level-coded}
 use Rattle.rules.proofs.Steps.{Step, refusal, reset, wrote, gave, went, rested, step-of, refused-next, refused-seen, refused-tally, refused-not, accepted-next, accepted-seen, accepted-tally}
 use Rattle.rules.proofs.Sending.Bound.{Good, levelIn, drives-in, bounded-now, good-none, ended-good, counted-good, after-good, asked-good}
@@ -65,10 +68,10 @@ frame-level (opening start) t f = level-coded (t .frame) (f .0) (f .1) start
 frame-level (inside start levels) t f = level-coded (t .frame) (f .0) (f .1) (start + length levels)
 
 module _ (c : Controller) (t : Tally) (j : Joined c t) where
-  driven-is : isAway (t .stand) ≡ false → isBetweenStand (t .stand) ≡ false → drives (c .core) ≡ drivenIn (t .stand) t
+  pub driven-is : isAway (t .stand) ≡ false → isBetweenStand (t .stand) ≡ false → drives (c .core) ≡ drivenIn (t .stand) t
   driven-is a b = drives-as (t .stand) t (c .core) (unfold serviceOf in (j .service)) a b
 
-  level-is : isAway (t .stand) ≡ false → isBetweenStand (t .stand) ≡ false → drives (c .core) ≡ levelIn (t .stand) (t .frame)
+  pub level-is : isAway (t .stand) ≡ false → isBetweenStand (t .stand) ≡ false → drives (c .core) ≡ levelIn (t .stand) (t .frame)
   level-is a b = driven-is a b ∙ frame-level (t .stand) t (j .good .fits a)
 
 -- ---- between attempts errors are at most R, so that nothing but a slot exhausts a service
@@ -86,17 +89,18 @@ never-exhausted t g = never-exhausted-in (t .stand) t g
 -- ---- a host write
 
 module _ (c : Controller) (t : Tally) (j : Joined c t) (a v : ℕ) where
-  asked-same : serviceAsked (c .core .service) a v ≡ serviceOf (askedT t a v)
+  pub asked-same : serviceAsked (c .core .service) a v ≡ serviceOf (askedT t a v)
   asked-same = ap (λ (s : Service). serviceAsked s a v) (j .service) ∙ asked-is t a v
 
-  small-errors : askedT t a v .errors ≤ 16
+  pub small-errors : askedT t a v .errors ≤ 16
   small-errors = let g = asked-good t a v (j .good) in omega (arith, g .errors, g .setting)
+
+  pub settled-asked : settled (stopped (serviceAsked (c .core .service) a v)) (serviceAsked (c .core .service) a v) ≡ serviceOf (endedT (askedT t a v))
+  settled-asked = ap (λ (s : Service). settled (stopped s) s) asked-same ∙ settled-is (askedT t a v) small-errors
 
   byte-joined : byteWritten c a v .core .service ≡ serviceOf (endedT (askedT t a v))
   unfolding byteWritten
-  byte-joined =
-      stopped-service (coreWritten (c .core) a v) (serviceAsked (c .core .service) a v)
-      ∙ ap (λ (s : Service). settled (stopped s) s) asked-same ∙ settled-is (askedT t a v) small-errors
+  byte-joined = stopped-service (coreWritten (c .core) a v) (serviceAsked (c .core .service) a v) ∙ settled-asked
 
   byte-te : te c ≡ false → te (byteWritten c a v) ≡ false
   unfolding byteWritten
@@ -128,7 +132,7 @@ module _ (c : Controller) (t : Tally) (j : Joined c t) (v : ℕ) where
   few : t .errors ≤ 15
   few = omega (arith, j .good .errors, j .good .setting)
 
-  sampled-service : (m : List ℕ) → coreJudged m (c .core) (judge (c .core .service .effort) v) (heard (c .core) (judge (c .core .service .effort) v) v) v .service ≡ serviceOf (endedT (countedT t (drives (c .core)) v))
+  pub sampled-service : (m : List ℕ) → coreJudged m (c .core) (judge (c .core .service .effort) v) (heard (c .core) (judge (c .core .service .effort) v) v) v .service ≡ serviceOf (endedT (countedT t (drives (c .core)) v))
   unfolding coreJudged ending
   sampled-service m =
       ap (λ (s : Service). settled (endingOf (judge (s .effort) v) (serviceJudged (judge (s .effort) v) s)) (serviceJudged (judge (s .effort) v) s)) (j .service)
@@ -154,14 +158,14 @@ module _ (c : Controller) (t : Tally) (j : Joined c t) (v : ℕ) where
   unfolding afterSlot
   slot-good b =
       let x : Controller = sampledSlot c v in
-      after-good (endedT (countedT t (drives (c .core)) v)) (x .memory) (longestOf (x .core)) (isActive (x .core .activity .mode)) (x .core .line) (x .core .reception) b
+      after-good (endedT (countedT t (drives (c .core)) v)) (x .memory) (longestOf (x .core)) (isActive (x .core .activity .mode)) (free (x .core .line)) (x .core .reception) b
       (counted-good t (j .good) (drives (c .core)) v (level-is c t j) .0)
 
 -- ---- every event
 
 -- what holds where the event leaves the tally as it is, and TE too or clears it
 module _ (c : Controller) (t : Tally) (e : Event) (j : Joined c t) (same : seenT c t e ≡ t) (quiet : te c ≡ false → te (next c e) ≡ false) where
-  unchanged : (accepted c e ≡ true → InSlot e (Drives (t .stand) (t .frame) (drives (c .core)))) → Claim c t e
+  unchanged : (accepted c e ≡ true → InSlot e (Drives (t .stand) (t .frame) (drives (c .core)))) → Holds c t e
   unchanged driven =
       let b = bounded-now t (j .good) in
       record {
@@ -182,7 +186,7 @@ only-then true x e h = refl
 only-then false x e h = absurd (false≢true (sym e ∙ h))
 
 module _ (c : Controller) (t : Tally) (j : Joined c t) (f : Fine c) where
-  slot-claim : (l : ℕ) → isActive (c .core .activity .mode) ≡ true → step c (Slot l) ≡ answered (activeSlot c l) → Claim c t (Slot l)
+  slot-claim : (l : ℕ) → isActive (c .core .activity .mode) ≡ true → step c (Slot l) ≡ answered (activeSlot c l) → Holds c t (Slot l)
   slot-claim l a h =
       let v : ℕ = sampleOf c l in
       let n : next c (Slot l) ≡ sampledSlot c v = unfold activeSlot answered in accepted-next c t (Slot l) _ (activeSlot c l) h in
@@ -200,7 +204,7 @@ module _ (c : Controller) (t : Tally) (j : Joined c t) (f : Fine c) where
         only = λ y z. rw s (let q = ltb-true (countedT t (drives (c .core)) v .setting) (countedT t (drives (c .core)) v .errors) (only-then (ltb (countedT t (drives (c .core)) v .setting) (countedT t (drives (c .core)) v .errors)) (te c) y (sym x ∙ z)) in omega (arith, b .errors));
       }
 
-  pub claim : (e : Event) → Step c e → Claim c t e
+  pub claim : (e : Event) → Step c e → Holds c t e
   claim e (refusal n h) =
       unchanged c t e j (refused-seen c t e n h) (λ x. ap te (refused-next c t e n h) ∙ x) (λ x. absurd (false≢true (sym (refused-not c t e n h) ∙ x)))
   claim Reset (reset h) =
@@ -242,15 +246,5 @@ module _ (c : Controller) (t : Tally) (j : Joined c t) (f : Fine c) where
       let i : followIn c t (Slot l) ≡ t = unfold followIn in rw a in
       moved n (o ∙ i) j
 
--- ---- every list of events
-
-from : (c : Controller) (t : Tally) → Joined c t → Fine c → (es : List Event) → SendingOver c t es
-from c t j f [] = tt
-from c t j f (e ∷ es) = (claim c t j f e (step-of c e), from (next c e) (nextT c t e) (joined-next c t j f e (step-of c e)) (fine-next c e f) es)
-
-joined-fresh : Joined fresh none
+pub joined-fresh : Joined fresh none
 joined-fresh = record { service = unfold fresh resetAll resetCore serviceOf serviceIn none in refl; good = good-none }
-
--- Demand 3, entire
-pub demand-3 : (es : List Event) → SendingOver fresh none es
-demand-3 es = from fresh none joined-fresh fine-fresh es

@@ -11,7 +11,7 @@ use Rattle.rules.specs.Definitions.Setters.{withActivity, withReport, wi
 use Rattle.rules.specs.Definitions.Longest.{longestOf}
 use Rattle.rules.specs.Definitions.Registers.{both, command, interruptReset, transmitControl, autonomous, cleared, asksIdle, asksActivation}
 use Rattle.rules.specs.Definitions.Channels.{lowestReady, acknowledgeAsked}
-use Rattle.rules.specs.Definitions.Reception.{underWay, unsettled}
+use Rattle.rules.specs.Definitions.Reception.{free, underWay, unsettled}
 use Rattle.rules.specs.Definitions.Delivery.{receiveError, reportStored, reportHeard, reportDelivered}
 use Rattle.rules.specs.Definitions.Attempt.{inService, isServing, atStage}
 use Rattle.rules.specs.Definitions.Service.{resting, stopped, settled, reportSending, reportJudged, reportEnded, chosen, choiceOf, choose, started}
@@ -192,7 +192,7 @@ module _ (m : List ℕ) (k : Core) where
 
   -- the service after choice and start is that of the tally after them
   pub follows-service : (t : Tally) → k .service ≡ serviceOf t
-      → followsOn m k .service ≡ serviceOf (startT (chooseT t m (longestOf k) (isActive (followsOn m k .activity .mode)) (followsOn m k .reception)) m (followsOn m k .line) (followsOn m k .reception))
+      → followsOn m k .service ≡ serviceOf (startT (chooseT t m (longestOf k) (isActive (followsOn m k .activity .mode)) (followsOn m k .reception)) m (free (followsOn m k .line)) (followsOn m k .reception))
   unfolding followsOn startMade
   follows-service t e =
       let x : Core = idleDue k in

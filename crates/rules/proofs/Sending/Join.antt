@@ -91,13 +91,13 @@ difference-kind p o = go (both o (arbitrated p)) (both o (inCheck p)) (inAcknowl
     go false false false = unfold kind in refl
 
 -- the tally's own tests of a slot are those of the rules
-open-same : (h : Half) → openHalf h ≡ openHalfT h
+pub open-same : (h : Half) → openHalf h ≡ openHalfT h
 unfolding openHalf openHalfT
 open-same Plain = refl
 open-same First = refl
 open-same Second = refl
 
-arbitrated-same : (p : Part) → arbitrated p ≡ arbitratedT p
+pub arbitrated-same : (p : Part) → arbitrated p ≡ arbitratedT p
 unfolding arbitrated arbitratedT
 arbitrated-same part.Start = refl
 arbitrated-same part.Identifier = refl
@@ -113,7 +113,7 @@ asks-same : (f : Frame) → acknowledgeAsked (getD (codedBytes f) 1 0) ≡ asksA
 unfolding acknowledgeAsked asksAcknowledge codedBytes
 asks-same f = let e : (f .identifier % 16 * 16 + f .command) / 4 % 2 ≡ f .command / 4 % 2 = omega arith in rw e
 
-due-same : (f : Frame) (k : ℕ) → due (coded f) k ≡ dueLevel f k (levelAt (coded f) k)
+pub due-same : (f : Frame) (k : ℕ) → due (coded f) k ≡ dueLevel f k (levelAt (coded f) k)
 unfolding due dueLevel coded
 due-same f k = rw (asks-same f)
 
@@ -313,7 +313,7 @@ unfolding serviceOf serviceIn
 between-is t e = ap (λ (s : Stand). serviceIn s t) e
 
 module _ (m : List ℕ) (l : Line) (r : Reception) where
-  started-in : (s : Stand) (t : Tally) → t .stand ≡ s → started (serviceIn s t) (autonomous (getD m transmitControl 0)) l r ≡ serviceOf (startIn s t m l r)
+  started-in : (s : Stand) (t : Tally) → t .stand ≡ s → started (serviceIn s t) (autonomous (getD m transmitControl 0)) l r ≡ serviceOf (startIn s t m (free l) r)
   unfolding started startIn
   started-in away t e = unfold serviceOf serviceIn resting atStage waits isWaiting in rw e
   started-in between t e =
@@ -322,7 +322,7 @@ module _ (m : List ℕ) (l : Line) (r : Reception) where
   started-in (opening start) t e = unfold serviceOf serviceIn made atStage waits isWaiting in rw e
   started-in (inside start levels) t e = unfold serviceOf serviceIn made atStage waits isWaiting in rw e
 
-  pub started-is : (t : Tally) → started (serviceOf t) (autonomous (getD m transmitControl 0)) l r ≡ serviceOf (startT t m l r)
+  pub started-is : (t : Tally) → started (serviceOf t) (autonomous (getD m transmitControl 0)) l r ≡ serviceOf (startT t m (free l) r)
   unfolding serviceOf startT
   started-is t = started-in (t .stand) t refl
 

@@ -1,4 +1,4 @@
-use Rattle.rules.proofs.Sending.Demand3.{demand-3}
+use Rattle.rules.proofs.Observer.EveryRun.{demand-3}
 use Rattle.rules.proofs.sending_claims.Statement.{statement}
 use Rattle.rules.proofs.sending_claims.Tie as tie
 

@@ -12,8 +12,9 @@ use Rattle.rules.specs.Definitions.State.{inRange}
 use Rattle.rules.specs.Definitions.Slots.{drives}
 use Rattle.rules.specs.Definitions.Host.{resetAll, byteRead}
 use Rattle.rules.specs.Definitions.Run.{fresh, step, after}
-use Rattle.rules.specs.Statements.Tally.{none}
+use Rattle.rules.specs.Statements.Observer.{atReset}
 use Rattle.rules.specs.Statements.Sending.{SendingOver}
+use Rattle.rules.specs.Statements.Settled.{SettledOver}
 use Rattle.rules.specs.Statements.Receiving.{noLog, ReceivingOver}
 use Rattle.rules.specs.Statements.Runs.{Counts, seenOver, setUp, ones, levels, sent, echoed, overdriven, ran, listening, asking, Stored}
 use Rattle.rules.specs.declared.Choice.the-variants.{Lowest}
@@ -45,9 +46,10 @@ pub record Matching : Type 0 where
   -- "Lowest channel number wins": the one that is found passes, and none below it does
   pub wins : (passes : ℕ → Bool) (left from c : ℕ) → lowest passes left from ≡ Lowest c → (passes c ≡ true) × ((k : ℕ) → from ≤ k → k < c → passes k ≡ false)
 
--- demand 3, for every list of events from a fresh controller
+-- demand 3, and what every event leaves, for every list of events from a fresh controller
 pub record Sending : Type 0 where
-  pub kept : (es : List Event) → SendingOver fresh none es
+  pub kept : (es : List Event) → SendingOver fresh atReset es
+  pub settled : (es : List Event) → SettledOver fresh atReset es
 
 -- what is delivered and acknowledged, for every list of events from a fresh controller
 pub record Receiving : Type 0 where
@@ -58,11 +60,11 @@ pub record Receiving : Type 0 where
 
 -- closed runs: what was lost, failed and spent (C, errors, slots) once the last sample is judged
 pub record Runs : Type 0 where
-  pub success : Counts (seenOver fresh none (setUp ++ (ones 12 ++ echoed)) (Slot 1)) 0 0 60
-  pub exhausted : Counts (seenOver fresh none (setUp ++ (ones 12 ++ (Slot 1 ∷ (ones 12 ++ (Slot 1 ∷ ones 12))))) (Slot 1)) 0 3 3
-  pub lost-twice : Counts (seenOver fresh none (setUp ++ (ones 12 ++ (overdriven ++ (ones 12 ++ (overdriven ++ (ones 12 ++ echoed)))))) (Slot 1)) 2 0 82
-  pub join : Counts (seenOver fresh none (setUp ++ (Write 0x01 0x22 ∷ (ones 12 ++ echoed))) (Slot 1)) 0 0 50
-  pub abort : Counts (seenOver fresh none (setUp ++ (ones 12 ++ (Slot 0 ∷ Slot 0 ∷ Slot 0 ∷ Write 0x13 0x0C ∷ []))) (Slot 1)) 0 1 4
+  pub success : Counts (seenOver fresh atReset (setUp ++ (ones 12 ++ echoed)) (Slot 1)) 0 0 60
+  pub exhausted : Counts (seenOver fresh atReset (setUp ++ (ones 12 ++ (Slot 1 ∷ (ones 12 ++ (Slot 1 ∷ ones 12))))) (Slot 1)) 0 3 3
+  pub lost-twice : Counts (seenOver fresh atReset (setUp ++ (ones 12 ++ (overdriven ++ (ones 12 ++ (overdriven ++ (ones 12 ++ echoed)))))) (Slot 1)) 2 0 82
+  pub join : Counts (seenOver fresh atReset (setUp ++ (Write 0x01 0x22 ∷ (ones 12 ++ echoed))) (Slot 1)) 0 0 50
+  pub abort : Counts (seenOver fresh atReset (setUp ++ (ones 12 ++ (Slot 0 ∷ Slot 0 ∷ Slot 0 ∷ Write 0x13 0x0C ∷ []))) (Slot 1)) 0 1 4
   -- tag and R written after the choice do not touch the service; the slot of a loss counts; a refused slot leaves the mode
   pub frame-kept : drives (ran fresh (setUp ++ (ones 5 ++ (Write 0x10 0x02 ∷ (ones 7 ++ levels (take 10 (slots sent)))))) .core) ≡ 1
   pub setting-kept : ran fresh (setUp ++ (ones 5 ++ (Write 0x01 0x03 ∷ (ones 7 ++ (Slot 1 ∷ []))))) .core .report .flags .te ≡ false

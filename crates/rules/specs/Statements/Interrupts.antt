@@ -17,7 +17,7 @@ use Rattle.rules.specs.Definitions.State.{isActive}
 use Rattle.rules.specs.Definitions.Slots.{ending, sampleOf}
 use Rattle.rules.specs.Definitions.Host.{byteRead, interruptLine}
 use Rattle.rules.specs.Definitions.Run.{fresh, next, after}
-use Rattle.rules.specs.Statements.Sending.{accepted}
+use Rattle.rules.specs.Statements.Observer.{accepted}
 use Rattle.rules.specs.Statements.OwnFrames.{sends, verdictIn}
 use Rattle.rules.specs.declared.Flags.{Flags}
 use Rattle.rules.specs.declared.Hearing.{Hearing}

@@ -21,7 +21,7 @@ use Rattle.rules.specs.Definitions.Attempt.{judge}
 use Rattle.rules.specs.Definitions.State.{isActive}
 use Rattle.rules.specs.Definitions.Slots.{roleIn, heard, drives, sampleOf}
 use Rattle.rules.specs.Definitions.Run.{next}
-use Rattle.rules.specs.Statements.Sending.{accepted}
+use Rattle.rules.specs.Statements.Observer.{accepted}
 use Rattle.rules.specs.declared.Winner.{Winner}
 use Rattle.rules.specs.declared.Hearing.{Hearing}
 use Rattle.rules.specs.declared.Hearing.the-variants.{Silent, Follows, Fault, Good}

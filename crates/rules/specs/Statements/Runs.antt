@@ -21,7 +21,7 @@ use Rattle.rules.specs.Definitions.Answers as ranswers
 use Rattle.rules.specs.Definitions.Host as rhost
 use Rattle.rules.specs.Definitions.Run as rrun
 use Rattle.rules.specs.Statements.Tally as rtally
-use Rattle.rules.specs.Statements.Sending as rpromise
+use Rattle.rules.specs.Statements.Observer as robserver
 use Prim.Native.Nat.{ℕ}
 use mathlib.Core.Bool.{true, false}
 use mathlib.Core.List.{List, [], _∷_, _++_}
@@ -30,16 +30,16 @@ use lib.ListN.{getD, replicate, take}
 use Rattle.line.specs.Frame.{Frame, slots}
 use Rattle.rules.specs.Definitions.Run.{fresh, next}
 use Rattle.rules.specs.Statements.Tally.{Tally, none}
-use Rattle.rules.specs.Statements.Sending.{seenT, nextT}
+use Rattle.rules.specs.Statements.Observer.{Observer, seenO, nextO}
 use Rattle.rules.specs.declared.Controller.{Controller}
 use Rattle.rules.specs.declared.Event.{Event}
 use Rattle.rules.specs.declared.Event.the-variants.{Write, Slot}
 
 -- it unfolds every definition of the rules, so that a run computes
-unfoldable pub seenOver : Controller → Tally → List Event → Event → Tally
-unfolding lbits.bits lbits.bitsValueFrom lbits.bitsValue llinecode.lineCode llinecode.pattern lcheck.polynomial lcheck.checkBit lcheck.remainder lcheck.allOnes lcheck.check lframe.byteBits lframe.covered lframe.carried lframe.start lframe.endOfData lframe.acknowledgeSlots lframe.endOfFrame lframe.slots lframe.size llayout.partOf llayout.inFive llayout.halfOf llayout.bitOf llayout.codedLevel llayout.levelIn llayout.levelOf rregisters.readOnly rregisters.writeOnly rregisters.reserved rregisters.rowAt rregisters.resetValues rregisters.resetValue rregisters.reservedRows rregisters.reservedBits rregisters.fixedBits rregisters.invertsReceive rregisters.invertsTransmit rregisters.retrySetting rregisters.autonomous rregisters.selectedInput rregisters.asksReset rregisters.asksSleep rregisters.asksIdle rregisters.asksActivation rregisters.asksRearbitration rregisters.resetReport rregisters.bit rregisters.lineStatus rregisters.retriesByte rregisters.interruptStatus rregisters.unless rregisters.cleared rregisters.asserted rregisters.inputLevel rregisters.inverted rregisters.sampled rregisters.transmitted rchannels.extension rchannels.acknowledgeAsked rchannels.reads rchannels.remote rchannels.twelve rchannels.base rchannels.channelAt rchannels.lengthOf rchannels.cher rchannels.withCher rchannels.withChtx rchannels.withChrx rchannels.drak rchannels.noBuffer rchannels.ownBuffer rchannels.linkedBuffer rchannels.bufferOf rchannels.statusBits rchannels.receiveMessage rchannels.requestDetection rchannels.transmitMessage rchannels.deferredReply rchannels.matches rchannels.listens rchannels.takes rchannels.nobody rchannels.winnerOf rchannels.lowest rchannels.lowestListening rchannels.won rchannels.winnerFor rchannels.asksToSend rchannels.sendable rchannels.ready rchannels.lowestReady rmailbox.mailboxAt rmailbox.statusByte rmailbox.laidFrom rmailbox.stored rmailbox.mailboxBytes rmailbox.dataIn rmailbox.sentFrame rmailbox.codedBytes rmailbox.coded rmailbox.retagged rmailbox.markedCher rmailbox.markedChtx rmailbox.markedChrx rmailbox.rowsWritten rmailbox.resetMemory rreception.unsettled rreception.afterGood rreception.free rreception.takesStart rreception.counted rreception.atPlace rreception.quiet rreception.isUnderWay rreception.underWay rreception.isBody rreception.inBody rreception.behind rreception.startEnded rreception.commandEnded rreception.moved rreception.entered rreception.bitTaken rreception.withNibble rreception.moreNibbles rreception.bitsLaid rreception.nibbleTaken rreception.dataEnded rreception.begun rreception.followStart rreception.followBody rreception.followAcknowledge rreception.followEnd rreception.followIn rreception.followed rreception.winnerTaken rreception.dataCount rhearing.lineAfter rhearing.receptionAfter rhearing.whole rhearing.replyRequest rhearing.checkReceived rhearing.checkDue rhearing.hearEndOfData rhearing.hearSecondHalf rhearing.hearBody rhearing.hearStart rhearing.fits rhearing.acknowledges rhearing.acknowledgeWrong rhearing.hearAcknowledge rhearing.hearEnd rhearing.hearIn rhearing.hearFrame rhearing.hearQuiet rhearing.acknowledgeLevel rhearing.receiverIn rhearing.receiverLevel rdelivery.delivered rdelivery.deliveryTo rdelivery.deliveryOf rdelivery.memoryStored rdelivery.memoryDelivered rdelivery.receiveError rdelivery.reportStored rdelivery.reportHeard rdelivery.reportDelivered rattempt.moreSlots rattempt.moreAttempts rattempt.noCounts rattempt.atStage rattempt.isServing rattempt.inService rattempt.isBetween rattempt.betweenAttempts rattempt.isWaiting rattempt.waits rattempt.isDriving rattempt.drivesFrame rattempt.sentSlots rattempt.levelAt rattempt.due rattempt.openHalf rattempt.arbitrated rattempt.inCheck rattempt.inAcknowledge rattempt.differenceIn rattempt.difference rattempt.judgeSlot rattempt.judge rattempt.slotSpent rattempt.lostSpent rattempt.errorSpent rattempt.advance rattempt.exhausted rservice.roleOf rservice.resting rservice.stopped rservice.endingOf rservice.settled rservice.memoryEnded rservice.retriesOf rservice.reportSending rservice.reportJudged rservice.reportEnded rservice.chosen rservice.choiceOf rservice.choose rservice.opened rservice.started rservice.abortAsked rservice.rearAsked rservice.aborts rservice.hearOwn rstate.isActive rstate.isAsleep rstate.isIdle rstate.inMode rstate.serving rstate.ranges rstate.within rstate.inRange rstate.resetCore rstate.idled rstate.idleDue rstate.slept rstate.idleAsked rstate.activated rslots.heardAs rslots.heard rslots.delivers rslots.serviceJudged rslots.ending rslots.receptionJudged rslots.reportAfter rslots.memoryJudged rslots.coreJudged rslots.chooses rslots.choiceMade rslots.startMade rslots.followsOn rslots.drivesAs rslots.drives rslots.sampleOf rslots.judgedSlot rslots.sampledSlot rslots.activeSlot ranswers.number ranswers.refusedBy ranswers.valueOf ranswers.answerOf ranswers.refusedLent ranswers.acceptedLent ranswers.answerLent rhost.resetAll rhost.resets rhost.sleeps rhost.modeCommanded rhost.rearCommanded rhost.keptByte rhost.flagsCleared rhost.coreWritten rhost.serviceAsked rhost.stoppedCore rhost.byteWritten rhost.hostWritten rhost.lineStatusOf rhost.statusRead rhost.byteRead rhost.accessRefusals rhost.writeRefusals rhost.readRefusals rhost.interruptLine rrun.fresh rrun.refuse rrun.accept rrun.unlessRefused rrun.pinReset rrun.hostWrite rrun.hostRead rrun.answered rrun.restedSlot rrun.slot rrun.step rrun.next rrun.after rtally.noFrame rtally.none rtally.asksAcknowledge rtally.dueLevel rtally.openHalfT rtally.arbitratedT rtally.verdict rtally.spentT rtally.judgedAs rtally.countedIn rtally.countedT rtally.givenUp rtally.endedIn rtally.endedT rtally.chosenT rtally.choiceT rtally.chooseIn rtally.chooseT rtally.startIn rtally.startT rtally.isAway rtally.asks rtally.askedIn rtally.askedT rpromise.accepted rpromise.seenIn rpromise.afterSlot rpromise.followIn rpromise.seenT rpromise.nextT
-seenOver c t [] e = seenT c t e
-seenOver c t (x ∷ xs) e = seenOver (next c x) (nextT c t x) xs e
+unfoldable pub seenOver : Controller → Observer → List Event → Event → Tally
+unfolding lbits.bits lbits.bitsValueFrom lbits.bitsValue llinecode.lineCode llinecode.pattern lcheck.polynomial lcheck.checkBit lcheck.remainder lcheck.allOnes lcheck.check lframe.byteBits lframe.covered lframe.carried lframe.start lframe.endOfData lframe.acknowledgeSlots lframe.endOfFrame lframe.slots lframe.size llayout.partOf llayout.inFive llayout.halfOf llayout.bitOf llayout.codedLevel llayout.levelIn llayout.levelOf rregisters.readOnly rregisters.writeOnly rregisters.reserved rregisters.rowAt rregisters.resetValues rregisters.resetValue rregisters.reservedRows rregisters.reservedBits rregisters.fixedBits rregisters.invertsReceive rregisters.invertsTransmit rregisters.retrySetting rregisters.autonomous rregisters.selectedInput rregisters.asksReset rregisters.asksSleep rregisters.asksIdle rregisters.asksActivation rregisters.asksRearbitration rregisters.resetReport rregisters.bit rregisters.lineStatus rregisters.retriesByte rregisters.interruptStatus rregisters.unless rregisters.cleared rregisters.asserted rregisters.inputLevel rregisters.inverted rregisters.sampled rregisters.transmitted rchannels.extension rchannels.acknowledgeAsked rchannels.reads rchannels.remote rchannels.twelve rchannels.base rchannels.channelAt rchannels.lengthOf rchannels.cher rchannels.withCher rchannels.withChtx rchannels.withChrx rchannels.drak rchannels.noBuffer rchannels.ownBuffer rchannels.linkedBuffer rchannels.bufferOf rchannels.statusBits rchannels.receiveMessage rchannels.requestDetection rchannels.transmitMessage rchannels.deferredReply rchannels.matches rchannels.listens rchannels.takes rchannels.nobody rchannels.winnerOf rchannels.lowest rchannels.lowestListening rchannels.won rchannels.winnerFor rchannels.asksToSend rchannels.sendable rchannels.ready rchannels.lowestReady rmailbox.mailboxAt rmailbox.statusByte rmailbox.laidFrom rmailbox.stored rmailbox.mailboxBytes rmailbox.dataIn rmailbox.sentFrame rmailbox.codedBytes rmailbox.coded rmailbox.retagged rmailbox.markedCher rmailbox.markedChtx rmailbox.markedChrx rmailbox.rowsWritten rmailbox.resetMemory rreception.unsettled rreception.afterGood rreception.free rreception.takesStart rreception.counted rreception.atPlace rreception.quiet rreception.isUnderWay rreception.underWay rreception.isBody rreception.inBody rreception.behind rreception.startEnded rreception.commandEnded rreception.moved rreception.entered rreception.bitTaken rreception.withNibble rreception.moreNibbles rreception.bitsLaid rreception.nibbleTaken rreception.dataEnded rreception.begun rreception.followStart rreception.followBody rreception.followAcknowledge rreception.followEnd rreception.followIn rreception.followed rreception.winnerTaken rreception.dataCount rhearing.lineAfter rhearing.receptionAfter rhearing.whole rhearing.replyRequest rhearing.checkReceived rhearing.checkDue rhearing.hearEndOfData rhearing.hearSecondHalf rhearing.hearBody rhearing.hearStart rhearing.fits rhearing.acknowledges rhearing.acknowledgeWrong rhearing.hearAcknowledge rhearing.hearEnd rhearing.hearIn rhearing.hearFrame rhearing.hearQuiet rhearing.acknowledgeLevel rhearing.receiverIn rhearing.receiverLevel rdelivery.delivered rdelivery.deliveryTo rdelivery.deliveryOf rdelivery.memoryStored rdelivery.memoryDelivered rdelivery.receiveError rdelivery.reportStored rdelivery.reportHeard rdelivery.reportDelivered rattempt.moreSlots rattempt.moreAttempts rattempt.noCounts rattempt.atStage rattempt.isServing rattempt.inService rattempt.isBetween rattempt.betweenAttempts rattempt.isWaiting rattempt.waits rattempt.isDriving rattempt.drivesFrame rattempt.sentSlots rattempt.levelAt rattempt.due rattempt.openHalf rattempt.arbitrated rattempt.inCheck rattempt.inAcknowledge rattempt.differenceIn rattempt.difference rattempt.judgeSlot rattempt.judge rattempt.slotSpent rattempt.lostSpent rattempt.errorSpent rattempt.advance rattempt.exhausted rservice.roleOf rservice.resting rservice.stopped rservice.endingOf rservice.settled rservice.memoryEnded rservice.retriesOf rservice.reportSending rservice.reportJudged rservice.reportEnded rservice.chosen rservice.choiceOf rservice.choose rservice.opened rservice.started rservice.abortAsked rservice.rearAsked rservice.aborts rservice.hearOwn rstate.isActive rstate.isAsleep rstate.isIdle rstate.inMode rstate.serving rstate.ranges rstate.within rstate.inRange rstate.resetCore rstate.idled rstate.idleDue rstate.slept rstate.idleAsked rstate.activated rslots.heardAs rslots.heard rslots.delivers rslots.serviceJudged rslots.ending rslots.receptionJudged rslots.reportAfter rslots.memoryJudged rslots.coreJudged rslots.chooses rslots.choiceMade rslots.startMade rslots.followsOn rslots.drivesAs rslots.drives rslots.sampleOf rslots.judgedSlot rslots.sampledSlot rslots.activeSlot ranswers.number ranswers.refusedBy ranswers.valueOf ranswers.answerOf ranswers.refusedLent ranswers.acceptedLent ranswers.answerLent rhost.resetAll rhost.resets rhost.sleeps rhost.modeCommanded rhost.rearCommanded rhost.keptByte rhost.flagsCleared rhost.coreWritten rhost.serviceAsked rhost.stoppedCore rhost.byteWritten rhost.hostWritten rhost.lineStatusOf rhost.statusRead rhost.byteRead rhost.accessRefusals rhost.writeRefusals rhost.readRefusals rhost.interruptLine rrun.fresh rrun.refuse rrun.accept rrun.unlessRefused rrun.pinReset rrun.hostWrite rrun.hostRead rrun.answered rrun.restedSlot rrun.slot rrun.step rrun.next rrun.after rtally.noFrame rtally.none rtally.asksAcknowledge rtally.dueLevel rtally.openHalfT rtally.arbitratedT rtally.verdict rtally.spentT rtally.judgedAs rtally.countedIn rtally.countedT rtally.givenUp rtally.endedIn rtally.endedT rtally.chosenT rtally.choiceT rtally.chooseIn rtally.chooseT rtally.startIn rtally.startT rtally.isAway rtally.asks rtally.askedIn rtally.askedT robserver.recessive robserver.freeO robserver.startsO robserver.anew robserver.atReset robserver.codeT robserver.hearsOwn robserver.hearsOther robserver.hearsIn robserver.hearsO robserver.lineO robserver.sampledO robserver.idleO robserver.goesOnO robserver.activatedO robserver.idleAskedO robserver.commandedO robserver.writtenO robserver.accepted robserver.seenIn robserver.seenO robserver.followIn robserver.nextO
+seenOver c o [] e = seenO c o e
+seenOver c o (x ∷ xs) e = seenOver (next c x) (nextO c o x) xs e
 
 -- channel 0: tag 0xF23, EXT, no data, RAK 0; R = 2, MT 1; active
 unfoldable pub setUp : List Event

@@ -1,51 +1,54 @@
 -- Demand 3, entire: one claim about the list of events.
---   seenT == the tally once the event's sample is judged, before the choice        nextT == the tally after the event
---   Claim == what holds of an event        SendingOver == what holds of a list of events, from a controller and a tally on
-use Prim.Native.Nat.{ℕ, _+_, _*_, _≤_, _%_}
-use mathlib.Core.Bool.{Bool, true, false}
+--   Agrees == the controller stands as the observer says        Claim == what holds of an event
+--   SendingOver == what holds of a list of events, from a controller and an observer on
+use Prim.Native.Nat.{ℕ, _+_, _*_, _≤_, min}
+use mathlib.Core.Bool.{Bool, true, false, not}
 use mathlib.Core.Path.{_≡_}
 use mathlib.Core.List.{List, [], _∷_, _++_}
-use lib.Dec.{eqb}
-use lib.ListN.{length, drop}
-use Rattle.line.specs.Bits.{pick}
+use lib.ListN.{length, getD, drop}
 use Rattle.line.specs.Frame.{Frame, Fits, slots, size}
 use Rattle.rules.specs.Definitions.Longest.{longestOf}
-use Rattle.rules.specs.Definitions.State.{isActive}
-use Rattle.rules.specs.Definitions.Slots.{drives, sampleOf}
-use Rattle.rules.specs.Definitions.Host.{resets, sleeps}
-use Rattle.rules.specs.Definitions.Run.{step, next}
-use Rattle.rules.specs.Statements.Tally.{Stand, away, between, opening, inside, Tally, none, countedT, endedT, chooseT, startT, askedT, isAway}
+use Rattle.rules.specs.Definitions.Reception.{free, takesStart}
+use Rattle.rules.specs.Definitions.Hearing.{receiverLevel}
+use Rattle.rules.specs.Definitions.Attempt.{largest}
+use Rattle.rules.specs.Definitions.State.{serving}
+use Rattle.rules.specs.Definitions.Slots.{drives}
+use Rattle.rules.specs.Definitions.Run.{next}
+use Rattle.rules.specs.Statements.Tally.{Stand, away, between, opening, inside, Tally, isAway}
+use Rattle.rules.specs.Statements.Observer.{freeO, startsO, Observer, accepted, seenO, nextO}
+use Rattle.rules.specs.declared.Service.{Service}
 use Rattle.rules.specs.declared.Controller.{Controller}
 use Rattle.rules.specs.declared.Event.{Event}
 use Rattle.rules.specs.declared.Event.the-variants.{Reset, Write, Read, Slot}
 
--- the event was accepted
-unfoldable pub accepted : Controller → Event → Bool
-accepted c e = eqb (step c e .refused) 0
+-- ---- the controller stands as the observer says
 
--- ---- the tally over an accepted event from controller c; "All else, refused or not, adds nothing"
+-- the level of the next slot: in an attempt the fixed frame's next, else dominant only where an acknowledge is owed (Receiving.antt, Acknowledges)
+unfoldable pub levelIn : Stand → Observer → ℕ
+levelIn away o = receiverLevel (o .frame)
+levelIn between o = receiverLevel (o .frame)
+levelIn (opening start) o = getD (slots (o .tally .frame)) start 1
+levelIn (inside start levels) o = getD (slots (o .tally .frame)) (start + length levels) 1
 
-unfoldable pub seenIn : Controller → Tally → Event → Tally
-seenIn c t Reset = t
-seenIn c t (Write address value) = t
-seenIn c t (Read address) = t
-seenIn c t (Slot levels) = pick (isActive (c .core .activity .mode)) (countedT t (drives (c .core)) (sampleOf c levels)) t
+unfoldable pub levelO : Observer → ℕ
+levelO o = levelIn (o .tally .stand) o
 
-unfoldable pub afterSlot : Tally → Controller → Tally
-afterSlot t c =
-    startT (chooseT t (c .memory) (longestOf (c .core)) (isActive (c .core .activity .mode)) (c .core .reception)) (c .memory) (c .core .line) (c .core .reception)
+-- "only stored counts stop at their largest"
+pub record Counted (s : Service) (t : Tally) : Type 0 where
+  pub channel : s .channel ≡ t .channel
+  pub setting : s .effort .setting ≡ t .setting
+  pub lost : s .effort .counters .lost .0 ≡ min (t .lost) largest
+  pub errors : s .effort .counters .errors .0 ≡ min (t .errors) largest
+  pub slots : s .effort .counters .slots .0 ≡ min (t .slots) largest
 
-unfoldable pub followIn : Controller → Tally → Event → Tally
-followIn c t Reset = none
-followIn c t (Write address value) = pick (resets address (value % 256)) none (pick (sleeps address (value % 256)) none (endedT (askedT t address (value % 256))))
-followIn c t (Read address) = t
-followIn c t (Slot levels) = pick (isActive (c .core .activity .mode)) (afterSlot (endedT (seenIn c t (Slot levels))) (next c (Slot levels))) t
-
-unfoldable pub seenT : Controller → Tally → Event → Tally
-seenT c t e = pick (accepted c e) (seenIn c t e) t
-
-unfoldable pub nextT : Controller → Tally → Event → Tally
-nextT c t e = pick (accepted c e) (followIn c t e) t
+pub record Agrees (c : Controller) (o : Observer) : Type 0 where
+  pub activity : c .core .activity ≡ o .activity
+  pub free-line : free (c .core .line) ≡ freeO (o .line)
+  pub start-taken : takesStart (c .core .line) ≡ startsO (o .line)
+  pub frame : c .core .reception ≡ o .frame
+  pub service : serving (c .core .service) ≡ not (isAway (o .tally .stand))
+  pub counts : isAway (o .tally .stand) ≡ false → Counted (c .core .service) (o .tally)
+  pub level : drives (c .core) ≡ levelO o
 
 -- ---- the claim
 
@@ -76,19 +79,20 @@ InSlot (Slot levels) A = A
 abbrev pub te : Controller → Bool
 te c = c .core .report .flags .te
 
--- t is the tally before the event, j = seenT c t e once its sample is judged
-pub record Claim (c : Controller) (t : Tally) (e : Event) : Type 0 where
+-- o is the observer before the event, seenO c o e its tally once the sample is judged. `errors` and `slots` are facts of the tally; the others bind the model
+pub record Claim (c : Controller) (o : Observer) (e : Event) : Type 0 where
+  pub agrees : Agrees c o
   -- the service's frame is one frame, no longer than the controller sends
-  pub fits : isAway (t .stand) ≡ false → Fits (longestOf (c .core)) (t .frame)
-  pub driven : accepted c e ≡ true → InSlot e (Drives (t .stand) (t .frame) (drives (c .core)))
+  pub fits : isAway (o .tally .stand) ≡ false → Fits (longestOf (c .core)) (o .tally .frame)
+  pub driven : accepted c e ≡ true → InSlot e (Drives (o .tally .stand) (o .tally .frame) (drives (c .core)))
   -- "At most R + 1 attempts end in error."
-  pub errors : seenT c t e .errors ≤ seenT c t e .setting + 1
+  pub errors : seenO c o e .errors ≤ seenO c o e .setting + 1
   -- "The slots spent in attempts are at most (C + R + 1) × (60 + 10n)."
-  pub slots : seenT c t e .slots ≤ (seenT c t e .lost + seenT c t e .setting + 1) * size (length (seenT c t e .frame .bytes))
+  pub slots : seenO c o e .slots ≤ (seenO c o e .lost + seenO c o e .setting + 1) * size (length (seenO c o e .frame .bytes))
   -- "the slot of error R + 1 leaves TE 1, and no other event turns it from 0 to 1"
-  pub raised : seenT c t e .errors ≡ seenT c t e .setting + 1 → te (next c e) ≡ true
-  pub only : te c ≡ false → te (next c e) ≡ true → seenT c t e .errors ≡ seenT c t e .setting + 1
+  pub raised : seenO c o e .errors ≡ seenO c o e .setting + 1 → te (next c e) ≡ true
+  pub only : te c ≡ false → te (next c e) ≡ true → seenO c o e .errors ≡ seenO c o e .setting + 1
 
-abbrev pub SendingOver : Controller → Tally → List Event → Type 0
-SendingOver c t [] = Unit {0}
-SendingOver c t (e ∷ es) = Claim c t e × SendingOver (next c e) (nextT c t e) es
+abbrev pub SendingOver : Controller → Observer → List Event → Type 0
+SendingOver c o [] = Agrees c o
+SendingOver c o (e ∷ es) = Claim c o e × SendingOver (next c e) (nextO c o e) es

@@ -1,6 +1,6 @@
 -- Demand 3's tally (01, Sending: "Demand 3's tally is fed the run's events and driven levels; choices, starts and ends follow by these rules, not from the program's record").
--- It is a record of its own. Beside the events and the driven levels it looks at what the rules say of the memory map, the mode, the line and the frame under way; never at
--- anything that the controller records about sending. Its numbers have no largest value.
+-- It is a record of its own. Beside the events and the driven levels it is given the memory map, and mode, line and frame under way as Observer.antt keeps them; never
+-- anything that the controller records. Its numbers have no largest value.
 --   Stand == where a service stands: away (none), between attempts, opening (the first level of an attempt is answered), inside (the levels driven so far)
 --   verdict == what a driven and a sampled level are for the attempt        countedT, endedT, chooseT, startT == a slot        askedT == a host write
 use Prim.Native.Nat.{ℕ, _+_, _*_, _/_, _%_}
@@ -18,10 +18,9 @@ use Rattle.line.specs.declared.Half.the-variants.{Plain, First, Second}
 use Rattle.rules.specs.Definitions.Registers.{both, command, transmitControl, retrySetting, autonomous, asksRearbitration}
 use Rattle.rules.specs.Definitions.Channels.{base, cher, lowestReady}
 use Rattle.rules.specs.Definitions.Mailbox.{sentFrame}
-use Rattle.rules.specs.Definitions.Reception.{free, underWay, startEnded}
+use Rattle.rules.specs.Definitions.Reception.{underWay, startEnded}
 use Rattle.rules.specs.declared.Choice.{Choice}
 use Rattle.rules.specs.declared.Choice.the-variants.{Nothing, Lowest}
-use Rattle.rules.specs.declared.Line.{Line}
 use Rattle.rules.specs.declared.Reception.{Reception}
 
 pub data Stand : Type 0 where
@@ -178,16 +177,16 @@ unfoldable pub chooseT : Tally → List ℕ → ℕ → Bool → Reception → T
 chooseT t m longest active r = chooseIn (t .stand) t m longest active r
 
 -- "MT 1 starts at once on a free line; either type joins a clean start sequence."
-unfoldable pub startIn : Stand → Tally → List ℕ → Line → Reception → Tally
-startIn away t m l r = t
-startIn between t m l r =
+unfoldable pub startIn : Stand → Tally → List ℕ → Bool → Reception → Tally
+startIn away t m isFree r = t
+startIn between t m isFree r =
     pick (startEnded r) (withStand t (opening 10))
-    (pick (underWay (r .place)) t (pick (both (autonomous (getD m transmitControl 0)) (free l)) (withStand t (opening 0)) t))
-startIn (opening start) t m l r = t
-startIn (inside start levels) t m l r = t
+    (pick (underWay (r .place)) t (pick (both (autonomous (getD m transmitControl 0)) isFree) (withStand t (opening 0)) t))
+startIn (opening start) t m isFree r = t
+startIn (inside start levels) t m isFree r = t
 
-unfoldable pub startT : Tally → List ℕ → Line → Reception → Tally
-startT t m l r = startIn (t .stand) t m l r
+unfoldable pub startT : Tally → List ℕ → Bool → Reception → Tally
+startT t m isFree r = startIn (t .stand) t m isFree r
 
 -- ---- a host write
 

@@ -1,0 +1,55 @@
+-- The tally stepped with the controller's own mode, line and frame under way. The observer's own are the same (Agreed.antt), and so is its tally.
+--   seenT == the tally once the event's sample is judged        nextT == the tally after the event        Holds == demand 3's claim on an event, of this tally
+use Prim.Native.Nat.{ℕ, _+_, _*_, _≤_, _%_}
+use mathlib.Core.Bool.{true, false}
+use mathlib.Core.Path.{_≡_}
+use lib.ListN.{length}
+use Rattle.line.specs.Bits.{pick}
+use Rattle.line.specs.Frame.{Fits, size}
+use Rattle.rules.specs.Definitions.Longest.{longestOf}
+use Rattle.rules.specs.Definitions.Reception.{free}
+use Rattle.rules.specs.Definitions.State.{isActive}
+use Rattle.rules.specs.Definitions.Slots.{drives, sampleOf}
+use Rattle.rules.specs.Definitions.Host.{resets, sleeps}
+use Rattle.rules.specs.Definitions.Run.{next}
+use Rattle.rules.specs.Statements.Tally.{Tally, none, countedT, endedT, chooseT, startT, askedT, isAway}
+use Rattle.rules.specs.Statements.Observer.{accepted}
+use Rattle.rules.specs.Statements.Sending.{Drives, InSlot, te}
+use Rattle.rules.specs.declared.Controller.{Controller}
+use Rattle.rules.specs.declared.Event.{Event}
+use Rattle.rules.specs.declared.Event.the-variants.{Reset, Write, Read, Slot}
+
+unfoldable pub seenIn : Controller → Tally → Event → Tally
+seenIn c t Reset = t
+seenIn c t (Write address value) = t
+seenIn c t (Read address) = t
+seenIn c t (Slot levels) = pick (isActive (c .core .activity .mode)) (countedT t (drives (c .core)) (sampleOf c levels)) t
+
+unfoldable pub afterSlot : Tally → Controller → Tally
+afterSlot t c =
+    startT (chooseT t (c .memory) (longestOf (c .core)) (isActive (c .core .activity .mode)) (c .core .reception)) (c .memory) (free (c .core .line)) (c .core .reception)
+
+unfoldable pub followIn : Controller → Tally → Event → Tally
+followIn c t Reset = none
+followIn c t (Write address value) = pick (resets address (value % 256)) none (pick (sleeps address (value % 256)) none (endedT (askedT t address (value % 256))))
+followIn c t (Read address) = t
+followIn c t (Slot levels) = pick (isActive (c .core .activity .mode)) (afterSlot (endedT (seenIn c t (Slot levels))) (next c (Slot levels))) t
+
+unfoldable pub seenT : Controller → Tally → Event → Tally
+seenT c t e = pick (accepted c e) (seenIn c t e) t
+
+unfoldable pub nextT : Controller → Tally → Event → Tally
+nextT c t e = pick (accepted c e) (followIn c t e) t
+
+-- demand 3's claim on an event, of this tally; t is the tally before the event, seenT c t e once its sample is judged
+pub record Holds (c : Controller) (t : Tally) (e : Event) : Type 0 where
+  -- the service's frame is one frame, no longer than the controller sends
+  pub fits : isAway (t .stand) ≡ false → Fits (longestOf (c .core)) (t .frame)
+  pub driven : accepted c e ≡ true → InSlot e (Drives (t .stand) (t .frame) (drives (c .core)))
+  -- "At most R + 1 attempts end in error."
+  pub errors : seenT c t e .errors ≤ seenT c t e .setting + 1
+  -- "The slots spent in attempts are at most (C + R + 1) × (60 + 10n)."
+  pub slots : seenT c t e .slots ≤ (seenT c t e .lost + seenT c t e .setting + 1) * size (length (seenT c t e .frame .bytes))
+  -- "the slot of error R + 1 leaves TE 1, and no other event turns it from 0 to 1"
+  pub raised : seenT c t e .errors ≡ seenT c t e .setting + 1 → te (next c e) ≡ true
+  pub only : te c ≡ false → te (next c e) ≡ true → seenT c t e .errors ≡ seenT c t e .setting + 1
