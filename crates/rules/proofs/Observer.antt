@@ -1,2 +1,3 @@
 pub mod Agreed
+pub mod Ends
 pub mod EveryRun

@@ -16,7 +16,7 @@ use Rattle.rules.specs.Definitions.Setters.{withActivity, withReport, wi
 use Rattle.rules.specs.Definitions.Longest.{longestOf}
 use Rattle.rules.specs.Definitions.Registers.{both, either, command, interruptReset, asksIdle, asksActivation, CV, ACKE, FCSE}
 use Rattle.rules.specs.Definitions.Mailbox.{coded}
-use Rattle.rules.specs.Definitions.Reception.{unsettled, afterGood, free, takesStart, counted, quiet, underWay}
+use Rattle.rules.specs.Definitions.Reception.{unsettled, afterGood, free, takesStart, counted, atPlace, quiet, isUnderWay, underWay}
 use Rattle.rules.specs.Definitions.Hearing.{lineAfter, hearFrame, hearQuiet, receiverIn, receiverLevel}
 use Rattle.rules.specs.Definitions.Attempt.{atStage, inService, isServing, drivesFrame, isDriving, levelAt, due, inCheck, inAcknowledge, differenceIn, difference, judgeSlot, judge}
 use Rattle.rules.specs.Definitions.Service.{roleOf, resting, stopped, settled, reportEnded, hearOwn}
@@ -24,7 +24,7 @@ use Rattle.rules.specs.Definitions.State.{isActive, inMode, serving, res
 use Rattle.rules.specs.Definitions.Slots.{heard, receptionJudged, memoryJudged, coreJudged, followsOn, drivesAs, drives, sampleOf, judgedSlot, sampledSlot, activeSlot}
 use Rattle.rules.specs.Definitions.Host.{resetAll, resets, sleeps, modeCommanded, flagsCleared, coreWritten, serviceAsked, stoppedCore, byteWritten, hostWritten}
 use Rattle.rules.specs.Definitions.Run.{fresh, accept, answered, restedSlot, step, next}
-use Rattle.rules.specs.Statements.Tally.{Stand, away, between, opening, inside, Tally, none, goes, contended, failed, sent, dueLevel, openHalfT, arbitratedT, verdict, countedT, endedT, chooseT, startT, askedT, isAway}
+use Rattle.rules.specs.Statements.Tally.{Stand, away, between, opening, inside, Tally, none, goes, contended, failed, sent, dueLevel, openHalfT, arbitratedT, verdict, countedT, endedIn, endedT, chooseIn, chooseT, startIn, startT, askedIn, askedT, isAway}
 use Rattle.rules.specs.Statements.Observer as observer
 use Rattle.rules.specs.Statements.Observer.{Past, recessive, freeO, startsO, anew, Observer, withActivityO, withLineO, withFrameO, withTallyO, atReset, codeT, hearsOwn, hearsOther, hearsIn, hearsO, lineO, sampledO, idleO, goesOnO, activatedO, idleAskedO, commandedO, writtenO, accepted, nextO}
 use Rattle.rules.specs.Statements.Sending.{levelIn, levelO, Counted, Agrees}
@@ -253,9 +253,114 @@ commanded-tally o a v = go (eqb a command) (asksIdle v) (asksActivation v) (isAc
 
 -- ---- controller and observer belong together
 
+-- idle and asleep there is no service and no frame under way
+pub record Rests (o : Observer) : Type 0 where
+  pub none-serves : isAway (o .tally .stand) ≡ true
+  pub none-comes : underWay (o .frame .place) ≡ false
+
+abbrev pub Rested : Observer → Type 0
+Rested o = isActive (o .activity .mode) ≡ false → Rests o
+
 pub record Same (c : Controller) (o : Observer) : Type 0 where
   pub core : SameCore (c .core) o
   pub joined : Joined c (o .tally)
+  pub rested : Rested o
+
+quiet-apart : underWay (quiet .place) ≡ false
+unfolding quiet atPlace underWay isUnderWay
+quiet-apart = refl
+
+reset-rested : Rested atReset
+unfolding atReset none
+reset-rested a = record { none-serves = unfold isAway in refl; none-comes = quiet-apart }
+
+idle-rested : (o : Observer) → Rested o → Rested (idleO o)
+unfolding idleO
+idle-rested o r = go (o .activity .waiting) (isAway (o .tally .stand)) refl
+  where
+    go : (x y : Bool) → isAway (o .tally .stand) ≡ y → Rested (pick x (pick y (withFrameO (withActivityO o (inMode Idle false)) quiet) o) o)
+    go true true e a = record { none-serves = e; none-comes = quiet-apart }
+    go true false e a = r a
+    go false y e a = r a
+
+-- the choice and the start wait for an active controller
+start-away : (t : Tally) (m : List ℕ) (b : Bool) (r : Reception) → isAway (t .stand) ≡ true → isAway (startT t m b r .stand) ≡ true
+unfolding startT
+start-away t m b r e = go (t .stand) refl e
+  where
+    go : (x : Stand) → t .stand ≡ x → isAway x ≡ true → isAway (startIn x t m b r .stand) ≡ true
+    go away h a = unfold startIn in rw h (unfold isAway in refl)
+    go between h a = absurd (false≢true (unfold isAway in a))
+    go (opening start) h a = absurd (false≢true (unfold isAway in a))
+    go (inside start levels) h a = absurd (false≢true (unfold isAway in a))
+
+choose-away : (t : Tally) (m : List ℕ) (longest : ℕ) (r : Reception) → isAway (t .stand) ≡ true → isAway (chooseT t m longest false r .stand) ≡ true
+unfolding chooseT
+choose-away t m longest r e = go (t .stand) refl e
+  where
+    go : (x : Stand) → t .stand ≡ x → isAway x ≡ true → isAway (chooseIn x t m longest false r .stand) ≡ true
+    go away h a = unfold chooseIn in rw h (unfold isAway in refl)
+    go between h a = absurd (false≢true (unfold isAway in a))
+    go (opening start) h a = absurd (false≢true (unfold isAway in a))
+    go (inside start levels) h a = absurd (false≢true (unfold isAway in a))
+
+goes-on-rested : (o : Observer) (longest : ℕ) (m : List ℕ) → Rested o → Rested (goesOnO o longest m)
+unfolding goesOnO
+goes-on-rested o longest m r a =
+    record {
+      none-serves = start-away (chooseT (o .tally) m longest (isActive (o .activity .mode)) (o .frame)) m (freeO (o .line)) (o .frame) (rw a (choose-away (o .tally) m longest (o .frame) (r a .none-serves)));
+      none-comes = r a .none-comes;
+    }
+
+commanded-rested : (o : Observer) (a v : ℕ) → Rested o → Rested (commandedO o a v)
+unfolding commandedO idleAskedO activatedO
+commanded-rested o a v r = go (eqb a command) (asksIdle v) (asksActivation v) (isActive (o .activity .mode))
+  where
+    go : (x p q b : Bool) → Rested (pick x (pick p (pick b (withActivityO o (inMode Active true)) o) (pick q (pick b (withActivityO o (inMode Active false)) (withLineO (withActivityO o (inMode Active false)) (anew false))) o)) o)
+    go true true q true h = absurd (false≢true (sym (unfold inMode isActive in h)))
+    go true true q false h = r h
+    go true false true true h = absurd (false≢true (sym (unfold inMode isActive in h)))
+    go true false true false h = absurd (false≢true (sym (unfold inMode isActive in h)))
+    go true false false b h = r h
+    go false p q b h = r h
+
+away-ended : (t : Tally) (a v : ℕ) → isAway (t .stand) ≡ true → isAway (endedT (askedT t a v) .stand) ≡ true
+unfolding askedT
+away-ended t a v e = go (t .stand) refl e
+  where
+    go : (x : Stand) → t .stand ≡ x → isAway x ≡ true → isAway (endedT (askedIn x t a v) .stand) ≡ true
+    go away h i = unfold askedIn endedT in rw h (unfold endedIn none isAway in refl)
+    go between h i = absurd (false≢true (unfold isAway in i))
+    go (opening start) h i = absurd (false≢true (unfold isAway in i))
+    go (inside start levels) h i = absurd (false≢true (unfold isAway in i))
+
+wrote-rested : (o : Observer) (a v : ℕ) → Rested o → Rested (writtenO o a v)
+unfolding writtenO
+wrote-rested o a v r = go (resets a v) (sleeps a v)
+  where
+    -- a command that leaves the controller idle or asleep found it so
+    same-mode : isActive (commandedO o a v .activity .mode) ≡ false → isActive (o .activity .mode) ≡ false
+    same-mode = unfold commandedO idleAskedO activatedO in modes (eqb a command) (asksIdle v) (asksActivation v) (isActive (o .activity .mode)) refl
+      where
+        modes : (x p q b : Bool) → isActive (o .activity .mode) ≡ b → isActive (pick x (pick p (pick b (withActivityO o (inMode Active true)) o) (pick q (pick b (withActivityO o (inMode Active false)) (withLineO (withActivityO o (inMode Active false)) (anew false))) o)) o .activity .mode) ≡ false → isActive (o .activity .mode) ≡ false
+        modes true true q true e h = absurd (false≢true (sym (unfold inMode isActive in h)))
+        modes true true q false e h = e
+        modes true false true true e h = absurd (false≢true (sym (unfold inMode isActive in h)))
+        modes true false true false e h = e
+        modes true false false b e h = h
+        modes false p q b e h = h
+
+    byte : Rested (withTallyO (commandedO o a v) (endedT (askedT (o .tally) a v)))
+    byte h = record { none-serves = away-ended (o .tally) a v (r (same-mode h) .none-serves); none-comes = commanded-rested o a v r h .none-comes }
+
+    go : (x y : Bool) → Rested (pick x atReset (pick y (withTallyO (withFrameO (withActivityO o (inMode Asleep false)) quiet) none) (idleO (withTallyO (commandedO o a v) (endedT (askedT (o .tally) a v))))))
+    go true y = reset-rested
+    go false true = λ h. record { none-serves = unfold none isAway in refl; none-comes = quiet-apart }
+    go false false = idle-rested (withTallyO (commandedO o a v) (endedT (askedT (o .tally) a v))) byte
+
+slot-rested : (o : Observer) (longest d v : ℕ) (m : List ℕ) → isActive (o .activity .mode) ≡ true → Rested (idleO (sampledO o longest d v m))
+unfolding sampledO
+slot-rested o longest d v m a = idle-rested _ (λ h. absurd (false≢true (sym h ∙ a)))
 
 -- mode, line and frame after a host write
 module _ (c : Controller) (o : Observer) (s : Same c o) (a v : ℕ) where
@@ -333,11 +438,12 @@ module _ (c : Controller) (o : Observer) (s : Same c o) (v : ℕ) (small : v < 2
 -- ---- every event
 
 module _ (c : Controller) (o : Observer) (s : Same c o) (f : Fine c) where
-  same-as : (e : Event) (d : Controller) (u : Observer) → next c e ≡ d → nextO c o e ≡ u → nextT c (o .tally) e ≡ u .tally → SameCore (d .core) u → Same (next c e) (nextO c o e)
-  same-as e d u n m t k =
+  same-as : (e : Event) (d : Controller) (u : Observer) → next c e ≡ d → nextO c o e ≡ u → nextT c (o .tally) e ≡ u .tally → SameCore (d .core) u → Rested u → Same (next c e) (nextO c o e)
+  same-as e d u n m t k r =
       record {
         core = rw (n, m) k;
         joined = subst (λ (x : Tally). Joined (next c e) x) (t ∙ ap (λ (x : Observer). x .tally) (sym m)) (joined-next c (o .tally) (s .joined) f e (step-of c e));
+        rested = rw m r;
       }
 
   taken : (e : Event) (value : ℕ) (d : Controller) → step c e ≡ accept value d → nextO c o e ≡ observer.followIn c o e
@@ -376,24 +482,25 @@ module _ (c : Controller) (o : Observer) (s : Same c o) (f : Fine c) where
       let t₂ : beside.followIn c t (Slot l) ≡ afterSlot (endedT (countedT t (drives (c .core)) v)) x = tallied-by l x a n in
       let i = slot-core c o s v small in
       same-as (Slot l) x u n (m₁ ∙ m₂) (t₁ ∙ t₂ ∙ slot-tally c o s v small) (unfold goesOnO in record { activity = i .activity; line = i .line; frame = i .frame })
+      (goes-on-rested (after c o v (x .memory)) (longestOf (c .core)) (x .memory) (slot-rested o (longestOf (c .core)) (drives (c .core)) v (x .memory) b))
 
   pub same-next : (e : Event) → Step c e → Same (next c e) (nextO c o e)
   same-next e (refusal n h) =
-      same-as e c o (refused-next c (o .tally) e n h) (unfold nextO in rw (refused-not c (o .tally) e n h)) (unfold nextT in rw (refused-not c (o .tally) e n h)) (s .core)
+      same-as e c o (refused-next c (o .tally) e n h) (unfold nextO in rw (refused-not c (o .tally) e n h)) (unfold nextT in rw (refused-not c (o .tally) e n h)) (s .core) (s .rested)
   same-next Reset (reset h) =
       let t : nextT c (o .tally) Reset ≡ atReset .tally = accepted-tally c (o .tally) Reset 0 (resetAll c) h ∙ unfold beside.followIn atReset in refl in
       same-as Reset (resetAll c) atReset (accepted-next c (o .tally) Reset 0 (resetAll c) h) (taken Reset 0 (resetAll c) h ∙ unfold observer.followIn in refl) t
-      (unfold resetAll resetCore atReset unsettled in record { activity = refl; line = line-anew false; frame = refl })
+      (unfold resetAll resetCore atReset unsettled in record { activity = refl; line = line-anew false; frame = refl }) reset-rested
   same-next (Write a v) (wrote h) =
       let x : Controller = hostWritten c a (v % 256) in
       let u : Observer = writtenO o a (v % 256) in
       let m : nextO c o (Write a v) ≡ u = taken (Write a v) 0 x h ∙ unfold observer.followIn in refl in
       let t : nextT c (o .tally) (Write a v) ≡ u .tally = accepted-tally c (o .tally) (Write a v) 0 x h ∙ unfold beside.followIn in wrote-tally c o s a (v % 256) in
-      same-as (Write a v) x u (accepted-next c (o .tally) (Write a v) 0 x h) m t (wrote-core c o s a (v % 256))
+      same-as (Write a v) x u (accepted-next c (o .tally) (Write a v) 0 x h) m t (wrote-core c o s a (v % 256)) (wrote-rested o a (v % 256) (s .rested))
   same-next (Read a) (gave value h) =
       let m : nextO c o (Read a) ≡ o = taken (Read a) value c h ∙ unfold observer.followIn in refl in
       let t : nextT c (o .tally) (Read a) ≡ o .tally = accepted-tally c (o .tally) (Read a) value c h ∙ unfold beside.followIn in refl in
-      same-as (Read a) c o (accepted-next c (o .tally) (Read a) value c h) m t (s .core)
+      same-as (Read a) c o (accepted-next c (o .tally) (Read a) value c h) m t (s .core) (s .rested)
   same-next (Slot l) (went a h) = went-same l a h
   same-next (Slot l) (rested a h) =
       let n : next c (Slot l) ≡ c = unfold restedSlot in accepted-next c (o .tally) (Slot l) _ c h in
@@ -401,13 +508,14 @@ module _ (c : Controller) (o : Observer) (s : Same c o) (f : Fine c) where
       let m₂ : observer.followIn c o (Slot l) ≡ o = rested-by l (sym active-is ∙ a) in
       let t₁ : nextT c (o .tally) (Slot l) ≡ beside.followIn c (o .tally) (Slot l) = unfold restedSlot in accepted-tally c (o .tally) (Slot l) _ c h in
       let t₂ : beside.followIn c (o .tally) (Slot l) ≡ o .tally = unfold beside.followIn in rw a in
-      same-as (Slot l) c o n (m₁ ∙ m₂) (t₁ ∙ t₂) (s .core)
+      same-as (Slot l) c o n (m₁ ∙ m₂) (t₁ ∙ t₂) (s .core) (s .rested)
 
 pub same-fresh : Same fresh atReset
 same-fresh =
     record {
       core = unfold fresh resetAll resetCore atReset unsettled in record { activity = refl; line = line-anew false; frame = refl };
       joined = unfold atReset in joined-fresh;
+      rested = reset-rested;
     }
 
 -- ---- what the claim says of it
@@ -439,6 +547,22 @@ module _ (c : Controller) (o : Observer) (s : Same c o) where
   level-in (opening start) e h = level-is c (o .tally) (s .joined) (rw e (unfold isAway in refl)) (rw e (unfold isBetweenStand in refl)) ∙ rw e (unfold bound.levelIn in refl)
   level-in (inside start levels) e h = level-is c (o .tally) (s .joined) (rw e (unfold isAway in refl)) (rw e (unfold isBetweenStand in refl)) ∙ rw e (unfold bound.levelIn in refl)
 
+  at-rest : isActive (o .activity .mode) ≡ false → drives (c .core) ≡ 1
+  at-rest a =
+      let r : Rests o = s .rested a in
+      let e : drivesFrame (c .core .service .effort .progress) ≡ false = away-apart (o .tally .stand) (unfold serviceOf in (s .joined .service)) (r .none-serves) in
+      other-level e ∙ quiet-level (o .frame) (r .none-comes)
+    where
+      away-apart : (x : Stand) → c .core .service ≡ serviceIn x (o .tally) → isAway x ≡ true → drivesFrame (c .core .service .effort .progress) ≡ false
+      away-apart away h i = rw h (unfold serviceIn resting atStage drivesFrame isDriving in refl)
+      away-apart between h i = absurd (false≢true (unfold isAway in i))
+      away-apart (opening start) h i = absurd (false≢true (unfold isAway in i))
+      away-apart (inside start levels) h i = absurd (false≢true (unfold isAway in i))
+
+  level-now : (a : Bool) → isActive (o .activity .mode) ≡ a → drives (c .core) ≡ pick a (levelIn (o .tally .stand) o) 1
+  level-now true a = level-in (o .tally .stand) refl (unfold serviceOf in (s .joined .service))
+  level-now false a = at-rest a
+
   pub agrees : Agrees c o
   unfolding levelO
   agrees =
@@ -450,5 +574,5 @@ module _ (c : Controller) (o : Observer) (s : Same c o) where
         frame = s .core .frame;
         service = serving-is (c .core .service) (o .tally) (s .joined .service);
         counts = counted-in (o .tally .stand) (c .core .service) (o .tally) e;
-        level = level-in (o .tally .stand) refl e;
+        level = level-now (isActive (o .activity .mode)) refl;
       }

@@ -151,7 +151,7 @@ more-attempts x = go (ltb (min x largest) largest) refl
     go false e = let q : min x largest ≡ min (x + 1) largest = omega (arith, ltb-false) in λ i. record { 0 = q i }
 
 module _ (t : Tally) (s : Stand) where
-  spent-slot : slotSpent (countersOf t) ≡ countersOf (spentT t s)
+  pub spent-slot : slotSpent (countersOf t) ≡ countersOf (spentT t s)
   unfolding slotSpent countersOf spentT
   spent-slot = rw (more-slots (t .slots))
 
@@ -186,7 +186,7 @@ module _ (t : Tally) (stage : Stage) (k start : ℕ) (levels : List ℕ) where
 
 -- ---- the end of a service
 
-small : (x : ℕ) → x ≤ 16 → min x largest ≡ x
+pub small : (x : ℕ) → x ≤ 16 → min x largest ≡ x
 small x h = omega arith
 
 -- between attempts: exhaustion, abort, REAR

@@ -6,12 +6,13 @@ use mathlib.Core.Bool.{Bool, true, false, not}
 use mathlib.Core.Path.{_≡_}
 use mathlib.Core.List.{List, [], _∷_, _++_}
 use lib.ListN.{length, getD, drop}
+use Rattle.line.specs.Bits.{pick}
 use Rattle.line.specs.Frame.{Frame, Fits, slots, size}
 use Rattle.rules.specs.Definitions.Longest.{longestOf}
 use Rattle.rules.specs.Definitions.Reception.{free, takesStart}
 use Rattle.rules.specs.Definitions.Hearing.{receiverLevel}
 use Rattle.rules.specs.Definitions.Attempt.{largest}
-use Rattle.rules.specs.Definitions.State.{serving}
+use Rattle.rules.specs.Definitions.State.{isActive, serving}
 use Rattle.rules.specs.Definitions.Slots.{drives}
 use Rattle.rules.specs.Definitions.Run.{next}
 use Rattle.rules.specs.Statements.Tally.{Stand, away, between, opening, inside, Tally, isAway}
@@ -23,15 +24,16 @@ use Rattle.rules.specs.declared.Event.the-variants.{Reset, Write, Read, 
 
 -- ---- the controller stands as the observer says
 
--- the level of the next slot: in an attempt the fixed frame's next, else dominant only where an acknowledge is owed (Receiving.antt, Acknowledges)
+-- the level of the next slot of an active controller: in an attempt the fixed frame's next, else dominant only where an acknowledge is owed (Receiving.antt, Acknowledges)
 unfoldable pub levelIn : Stand → Observer → ℕ
 levelIn away o = receiverLevel (o .frame)
 levelIn between o = receiverLevel (o .frame)
 levelIn (opening start) o = getD (slots (o .tally .frame)) start 1
 levelIn (inside start levels) o = getD (slots (o .tally .frame)) (start + length levels) 1
 
+-- idle and asleep: recessive
 unfoldable pub levelO : Observer → ℕ
-levelO o = levelIn (o .tally .stand) o
+levelO o = pick (isActive (o .activity .mode)) (levelIn (o .tally .stand) o) 1
 
 -- "only stored counts stop at their largest"
 pub record Counted (s : Service) (t : Tally) : Type 0 where
