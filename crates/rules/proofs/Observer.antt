@@ -1,3 +1,4 @@
 pub mod Agreed
 pub mod Ends
+pub mod Settled
 pub mod EveryRun

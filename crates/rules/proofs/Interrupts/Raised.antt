@@ -35,6 +35,7 @@ use Rattle.rules.specs.Statements.Observer.{accepted}
 use Rattle.rules.proofs.Steps as steps
 use Rattle.rules.proofs.Steps.{Step, step-of, refused-next, refused-not, accepted-next}
 use Rattle.rules.specs.Statements.OwnFrames.{sends, verdictIn}
+use Rattle.rules.specs.Statements.Settled.{isStored, isSpoiled}
 use Rattle.rules.proofs.Roles.{role-other}
 use Rattle.rules.proofs.OwnFrames.EveryRun.{own-delivers, slot-sampled, effort-asked}
 use Rattle.rules.specs.Statements.Interrupts.{flagsOf, Sampled, Received, hearingIn, fitting, rak, Resets, by-pin, by-command, Exhausts, exhausts, LastError, last, Completes, completes, Spoils, fault, overflow, Stores, stores, Raised, Interrupts}
@@ -63,7 +64,7 @@ use Rattle.rules.specs.declared.Event.the-variants.{Reset, Write, Read, 
 
 -- ---- the flags after a slot
 
-unfoldable endedFlags : Ending → Flags → Flags
+unfoldable pub endedFlags : Ending → Flags → Flags
 endedFlags Going f = f
 endedFlags Sent f = withTok f true
 endedFlags Exhausted f = withTe f true
@@ -106,7 +107,7 @@ flags-heard Follows r = refl
 flags-heard (Fault code) r = refl
 flags-heard Good r = refl
 
-asked : Reception → Bool
+unfoldable pub asked : Reception → Bool
 asked r = acknowledgeAsked (getD (r .bytes) 1 0)
 
 flags-after : (k : Core) (w : Verdict) (h : Hearing)
@@ -123,10 +124,10 @@ flags-follow : (m : List ℕ) (k : Core) → followsOn m k .report .flags ≡ k 
 unfolding followsOn startMade
 flags-follow m k = choice-flags m (idleDue k) ∙ ap (λ (x : Report). x .flags) (idle-report k)
 
-abbrev verdictOf : Controller → ℕ → Verdict
+abbrev pub verdictOf : Controller → ℕ → Verdict
 verdictOf c v = judge (c .core .service .effort) v
 
-abbrev deliveryIn : Controller → ℕ → Delivery
+abbrev pub deliveryIn : Controller → ℕ → Delivery
 deliveryIn c v = delivers (roleIn (c .core)) (heard (c .core) (verdictOf c v) v) (c .core .reception)
 
 flags-sampled : (c : Controller) (v : ℕ)
@@ -156,24 +157,12 @@ delivered-same g p q r Stored a f = left g a (withRok f true) (withRnok f true) 
 delivered-same g p q r Overflowed a f = p f
 delivered-same g p q r Spoiled a f = p f
 
-unfoldable isSent : Ending → Bool
+unfoldable pub isSent : Ending → Bool
 isSent Going = false
 isSent Sent = true
 isSent Exhausted = false
 isSent Aborted = false
 isSent Rearbitrated = false
-
-unfoldable isStored : Delivery → Bool
-isStored Nothing = false
-isStored Stored = true
-isStored Overflowed = false
-isStored Spoiled = false
-
-unfoldable isSpoiled : Delivery → Bool
-isSpoiled Nothing = false
-isSpoiled Stored = false
-isSpoiled Overflowed = true
-isSpoiled Spoiled = true
 
 ended-tok : (x : Ending) (f : Flags) → endedFlags x f .tok ≡ pick (isSent x) true (f .tok)
 unfolding endedFlags isSent
@@ -219,39 +208,39 @@ module _ (c : Controller) (v : ℕ) where
   abbrev flags : Flags
   flags = sampledSlot c v .core .report .flags
 
-  slot-rst : flags .rst ≡ flagsOf c .rst
+  pub slot-rst : flags .rst ≡ flagsOf c .rst
   slot-rst =
       ap (λ (f : Flags). f .rst) (flags-sampled c v) ∙ ended-same (λ f. f .rst) (λ f. refl) (λ f. refl) (ending (c .core) (verdictOf c v)) _
       ∙ delivered-same (λ f. f .rst) (λ f. refl) (λ f. refl) (λ f. refl) (deliveryIn c v) (asked (c .core .reception)) (flagsOf c)
 
-  slot-tok : flags .tok ≡ pick (isSent (ending (c .core) (verdictOf c v))) true (flagsOf c .tok)
+  pub slot-tok : flags .tok ≡ pick (isSent (ending (c .core) (verdictOf c v))) true (flagsOf c .tok)
   slot-tok =
       ap (λ (f : Flags). f .tok) (flags-sampled c v) ∙ ended-tok (ending (c .core) (verdictOf c v)) _
       ∙ ap (λ (b : Bool). pick (isSent (ending (c .core) (verdictOf c v))) true b) (delivered-same (λ f. f .tok) (λ f. refl) (λ f. refl) (λ f. refl) (deliveryIn c v) (asked (c .core .reception)) (flagsOf c))
 
-  slot-te : flags .te ≡ pick (isExhausted (ending (c .core) (verdictOf c v))) true (flagsOf c .te)
+  pub slot-te : flags .te ≡ pick (isExhausted (ending (c .core) (verdictOf c v))) true (flagsOf c .te)
   slot-te =
       ap (λ (f : Flags). f .te) (flags-sampled c v) ∙ ended-te (ending (c .core) (verdictOf c v)) _
       ∙ ap (λ (b : Bool). pick (isExhausted (ending (c .core) (verdictOf c v))) true b) (delivered-same (λ f. f .te) (λ f. refl) (λ f. refl) (λ f. refl) (deliveryIn c v) (asked (c .core .reception)) (flagsOf c))
 
-  slot-re : flags .re ≡ pick (isSpoiled (deliveryIn c v)) true (flagsOf c .re)
+  pub slot-re : flags .re ≡ pick (isSpoiled (deliveryIn c v)) true (flagsOf c .re)
   slot-re =
       ap (λ (f : Flags). f .re) (flags-sampled c v) ∙ ended-same (λ f. f .re) (λ f. refl) (λ f. refl) (ending (c .core) (verdictOf c v)) _
       ∙ delivered-re (deliveryIn c v) (asked (c .core .reception)) (flagsOf c)
 
-  slot-rok : flags .rok ≡ pick (both (isStored (deliveryIn c v)) (asked (c .core .reception))) true (flagsOf c .rok)
+  pub slot-rok : flags .rok ≡ pick (both (isStored (deliveryIn c v)) (asked (c .core .reception))) true (flagsOf c .rok)
   slot-rok =
       ap (λ (f : Flags). f .rok) (flags-sampled c v) ∙ ended-same (λ f. f .rok) (λ f. refl) (λ f. refl) (ending (c .core) (verdictOf c v)) _
       ∙ delivered-rok (deliveryIn c v) (asked (c .core .reception)) (flagsOf c)
 
-  slot-rnok : flags .rnok ≡ pick (both (isStored (deliveryIn c v)) (not (asked (c .core .reception)))) true (flagsOf c .rnok)
+  pub slot-rnok : flags .rnok ≡ pick (both (isStored (deliveryIn c v)) (not (asked (c .core .reception)))) true (flagsOf c .rnok)
   slot-rnok =
       ap (λ (f : Flags). f .rnok) (flags-sampled c v) ∙ ended-same (λ f. f .rnok) (λ f. refl) (λ f. refl) (ending (c .core) (verdictOf c v)) _
       ∙ delivered-rnok (deliveryIn c v) (asked (c .core .reception)) (flagsOf c)
 
 -- ---- the flags after a write
 
-mode-flags : (k : Core) (v : ℕ) → modeCommanded k v .report .flags ≡ k .report .flags
+pub mode-flags : (k : Core) (v : ℕ) → modeCommanded k v .report .flags ≡ k .report .flags
 unfolding modeCommanded idleAsked activated
 mode-flags k v =
     left (λ (x : Core). x .report .flags) (asksIdle v) (idleAsked k) (pick (asksActivation v) (activated k) k) (k .report .flags)
@@ -260,7 +249,7 @@ mode-flags k v =
     (left (λ (x : Core). x .report .flags) (isActive (k .activity .mode)) (withActivity k (inMode Active false)) (withLine (withActivity k (inMode Active false)) unsettled) (k .report .flags) refl refl)
     refl)
 
-stopped-flags : (k : Core) (s : Service) → stoppedCore k s .report .flags ≡ endedFlags (stopped s) (k .report .flags)
+pub stopped-flags : (k : Core) (s : Service) → stoppedCore k s .report .flags ≡ endedFlags (stopped s) (k .report .flags)
 unfolding stoppedCore
 stopped-flags k s =
     ap (λ (x : Report). x .flags) (idle-report (withService (withReport k (reportEnded (stopped s) (k .report) s)) (settled (stopped s) s))) ∙ flags-ended (stopped s) (k .report) s

@@ -215,7 +215,7 @@ idle-same k o s e = go (k .activity .waiting) (o .activity .waiting) (ap (λ (x 
     go true true w false false h = absurd (false≢true h)
     go false false w x y h = s
 
-idle-tally : (o : Observer) → idleO o .tally ≡ o .tally
+pub idle-tally : (o : Observer) → idleO o .tally ≡ o .tally
 unfolding idleO
 idle-tally o = left (λ (x : Observer). x .tally) (o .activity .waiting) (pick (isAway (o .tally .stand)) (withFrameO (withActivityO o (inMode Idle false)) quiet) o) o (o .tally)
     (left (λ (x : Observer). x .tally) (isAway (o .tally .stand)) (withFrameO (withActivityO o (inMode Idle false)) quiet) o (o .tally) refl refl) refl
@@ -394,7 +394,12 @@ module _ (c : Controller) (o : Observer) (s : Same c o) (a v : ℕ) where
       go false false = sym (idle-tally (withTallyO (commandedO o a v) (endedT (askedT (o .tally) a v))))
 
 -- mode, line and frame after a slot of an active controller
-abbrev after : Controller → Observer → ℕ → List ℕ → Observer
+-- the state once a sample and its effects are taken
+unfoldable pub judgedCore : Controller → ℕ → Core
+judgedCore c v =
+    coreJudged (sampledSlot c v .memory) (c .core) (judge (c .core .service .effort) v) (heard (c .core) (judge (c .core .service .effort) v) v) v
+
+abbrev pub after : Controller → Observer → ℕ → List ℕ → Observer
 after c o v m = idleO (sampledO o (longestOf (c .core)) (drives (c .core)) v m)
 
 module _ (c : Controller) (o : Observer) (s : Same c o) (v : ℕ) (small : v < 2) where
@@ -413,18 +418,25 @@ module _ (c : Controller) (o : Observer) (s : Same c o) (v : ℕ) (small : v < 2
         frame = ap (λ (r : Reception). receptionJudged m (hearsO o (longestOf (c .core)) (drives (c .core)) v) r v) (s .core .frame);
       })
 
-  slot-core : SameCore (sampledSlot c v .core) (after c o v (sampledSlot c v .memory))
-  unfolding sampledSlot judgedSlot sampledO
-  slot-core =
+  pub idled-core : SameCore (idleDue (judgedCore c v)) (after c o v (sampledSlot c v .memory))
+  unfolding sampledSlot judgedSlot sampledO judgedCore
+  idled-core =
       let w : Verdict = judge (c .core .service .effort) v in
       let h : Hearing = heard (c .core) w v in
       let m : List ℕ = memoryJudged (c .memory) (c .core) w h in
       let k : Core = coreJudged m (c .core) w h v in
-      let i = idle-same k (sampledO o (longestOf (c .core)) (drives (c .core)) v m) (judged-same m) (serving-is (k .service) _ (sampled-service c (o .tally) (s .joined) v m)) in
+      idle-same k (sampledO o (longestOf (c .core)) (drives (c .core)) v m) (judged-same m) (serving-is (k .service) _ (sampled-service c (o .tally) (s .joined) v m))
+
+  slot-core : SameCore (sampledSlot c v .core) (after c o v (sampledSlot c v .memory))
+  slot-core =
+      let m : List ℕ = sampledSlot c v .memory in
+      let k : Core = judgedCore c v in
+      let e : sampledSlot c v .core ≡ followsOn m k = unfold sampledSlot judgedSlot judgedCore in refl in
+      let i = idled-core in
       record {
-        activity = follows-activity m k ∙ i .activity;
-        line = subst (λ (l : Line). LineIs l (after c o v m .line)) (sym (follows-line m k)) (i .line);
-        frame = follows-reception m k ∙ i .frame;
+        activity = ap (λ (x : Core). x .activity) e ∙ follows-activity m k ∙ i .activity;
+        line = subst (λ (x : Line). LineIs x (after c o v m .line)) (sym (ap (λ (x : Core). x .line) e ∙ follows-line m k)) (i .line);
+        frame = ap (λ (x : Core). x .reception) e ∙ follows-reception m k ∙ i .frame;
       }
 
   slot-tally : afterSlot (endedT (countedT (o .tally) (drives (c .core)) v)) (sampledSlot c v) ≡ goesOnO (after c o v (sampledSlot c v .memory)) (longestOf (c .core)) (sampledSlot c v .memory) .tally
@@ -446,14 +458,14 @@ module _ (c : Controller) (o : Observer) (s : Same c o) (f : Fine c) where
         rested = rw m r;
       }
 
-  taken : (e : Event) (value : ℕ) (d : Controller) → step c e ≡ accept value d → nextO c o e ≡ observer.followIn c o e
+  pub taken : (e : Event) (value : ℕ) (d : Controller) → step c e ≡ accept value d → nextO c o e ≡ observer.followIn c o e
   unfolding nextO
   taken e value d h = rw (accepted-so c (o .tally) e value d h)
 
-  active-is : isActive (c .core .activity .mode) ≡ isActive (o .activity .mode)
+  pub active-is : isActive (c .core .activity .mode) ≡ isActive (o .activity .mode)
   active-is = ap (λ (x : Activity). isActive (x .mode)) (s .core .activity)
 
-  followed-by : (l : ℕ) (x : Controller) → isActive (o .activity .mode) ≡ true → next c (Slot l) ≡ x
+  pub followed-by : (l : ℕ) (x : Controller) → isActive (o .activity .mode) ≡ true → next c (Slot l) ≡ x
       → observer.followIn c o (Slot l) ≡ goesOnO (after c o (sampleOf c l) (x .memory)) (longestOf (c .core)) (x .memory)
   unfolding observer.followIn
   followed-by l x a n = rw (a, n)
@@ -463,7 +475,7 @@ module _ (c : Controller) (o : Observer) (s : Same c o) (f : Fine c) where
   unfolding beside.followIn beside.seenIn
   tallied-by l x a n = rw (a, n)
 
-  rested-by : (l : ℕ) → isActive (o .activity .mode) ≡ false → observer.followIn c o (Slot l) ≡ o
+  pub rested-by : (l : ℕ) → isActive (o .activity .mode) ≡ false → observer.followIn c o (Slot l) ≡ o
   unfolding observer.followIn
   rested-by l a = rw a
 

@@ -68,7 +68,7 @@ stopped-is t h q = stopped-in (t .stand) t refl h q
 -- ---- a slot
 
 -- in a service that the sample does not bring to its last slot
-on-service : (t j : Tally) → isAway (j .stand) ≡ false → restT j ≡ endT t j
+pub on-service : (t j : Tally) → isAway (j .stand) ≡ false → restT j ≡ endT t j
 unfolding endT sentAll
 on-service t j e = rw e (go (not (isAway (t .stand))))
   where
@@ -76,7 +76,7 @@ on-service t j e = rw e (go (not (isAway (t .stand))))
     go true = refl
     go false = refl
 
-off-service : (t j : Tally) → isAway (t .stand) ≡ true → restT j ≡ endT t j
+pub off-service : (t j : Tally) → isAway (t .stand) ≡ true → restT j ≡ endT t j
 unfolding endT sentAll
 off-service t j e = rw e
 

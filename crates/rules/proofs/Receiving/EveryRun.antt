@@ -36,7 +36,7 @@ use Rattle.rules.specs.Statements.Observer.{accepted}
 use Rattle.rules.proofs.Sending.Beside.{nextT}
 use Rattle.rules.proofs.Sending.Join.{serviceIn, serviceOf}
 use Rattle.rules.proofs.Steps.{Step, refusal, went, rested, step-of, refused-not, accepted-next}
-use Rattle.rules.proofs.Sending.Follow.{follows-activity, follows-reception}
+use Rattle.rules.proofs.Sending.Follow.{follows-activity, follows-reception, follows-error}
 use Rattle.rules.proofs.Ranges.Limits.{Fine}
 use Rattle.rules.proofs.Ranges.Reach.{fine-fresh, fine-next}
 use Rattle.rules.proofs.Sending.Bound.{good-none}
@@ -118,23 +118,6 @@ good-error x r w = rw (w .count-is) (go (r .winner .matched) (leb (length (w .fr
 unjudged-error : (k : Core) (h : Hearing) → roleIn k ≡ Receiver → stopped (k .service) ≡ Going → reportAfter k Unjudged h .error ≡ reportDelivered (deliveryOf h (k .reception)) (reportHeard h (k .report)) (k .reception) .error
 unfolding reportAfter ending endingOf serviceJudged advance delivers reportJudged
 unjudged-error k h q g = rw (q, g) (unfold reportEnded in refl)
-
--- idle, choice and start leave 0x07
-idle-error : (k : Core) → idleDue k .report .error ≡ k .report .error
-unfolding idleDue idled
-idle-error k =
-    picked (λ (x : Core). x .report .error ≡ k .report .error) (k .activity .waiting) (pick (serving (k .service)) k (idled k)) k
-    (λ e. picked (λ (x : Core). x .report .error ≡ k .report .error) (serving (k .service)) k (idled k) (λ d. refl) (λ d. refl)) (λ e. refl)
-
-choice-error : (m : List ℕ) (k : Core) → choiceMade m k .report .error ≡ k .report .error
-unfolding choiceMade reportSending
-choice-error m k =
-    picked (λ (x : Core). x .report .error ≡ k .report .error) (chooses k) (pick (serving (choose m (longestOf k))) (withService (withReport k (reportSending (k .report) (choose m (longestOf k)))) (choose m (longestOf k))) k) k
-    (λ e. picked (λ (x : Core). x .report .error ≡ k .report .error) (serving (choose m (longestOf k))) (withService (withReport k (reportSending (k .report) (choose m (longestOf k)))) (choose m (longestOf k))) k (λ d. refl) (λ d. refl)) (λ e. refl)
-
-follows-error : (m : List ℕ) (k : Core) → followsOn m k .report .error ≡ k .report .error
-unfolding followsOn startMade
-follows-error m k = choice-error m (idleDue k) ∙ idle-error k
 
 -- the mailbox stands behind the channels
 cher-mailbox : (m : List ℕ) (c a : ℕ) → 128 ≤ a → getD (markedCher m c) a 0 ≡ getD m a 0

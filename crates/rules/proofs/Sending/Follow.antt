@@ -39,7 +39,7 @@ use Rattle.rules.specs.declared.Core.{Core}
 -- ---- a waiting idle leaves service and registers
 
 module _ (k : Core) where
-  idle-leaves : {B : Type 0} (f : Core → B) → f (idled k) ≡ f k → f (idleDue k) ≡ f k
+  pub idle-leaves : {B : Type 0} (f : Core → B) → f (idled k) ≡ f k → f (idleDue k) ≡ f k
   unfolding idleDue
   idle-leaves f e = left f (k .activity .waiting) (pick (serving (k .service)) k (idled k)) k (f k) (left f (serving (k .service)) k (idled k) (f k) refl e) refl
 
@@ -73,12 +73,18 @@ module _ (m : List ℕ) (k : Core) where
   pub choice-flags : choiceMade m k .report .flags ≡ k .report .flags
   choice-flags = choice-leaves (λ x. x .report .flags) (unfold chosenCore reportSending in refl)
 
+  choice-message : choiceMade m k .report .message ≡ k .report .message
+  choice-message = choice-leaves (λ x. x .report .message) (unfold chosenCore reportSending in refl)
+
+  choice-error : choiceMade m k .report .error ≡ k .report .error
+  choice-error = choice-leaves (λ x. x .report .error) (unfold chosenCore reportSending in refl)
+
   choice-of : (x : Choice) → k .service ≡ resting
       → pick (serving (choiceOf m x)) (withService (withReport k (reportSending (k .report) (choiceOf m x))) (choiceOf m x)) k .service ≡ serviceOf (choiceT m x)
   choice-of Nothing e = unfold choiceOf choiceT serving resting inService isServing atStage in (e ∙ unfold choiceOf in choose-is m Nothing)
   choice-of (Lowest c) e = unfold choiceOf chosen serving inService isServing atStage in choose-is m (Lowest c)
 
-  chooses-as : (b : Bool) → serving (k .service) ≡ b → chooses k ≡ both (isActive (k .activity .mode)) (both (not b) (not (underWay (k .reception .place))))
+  pub chooses-as : (b : Bool) → serving (k .service) ≡ b → chooses k ≡ both (isActive (k .activity .mode)) (both (not b) (not (underWay (k .reception .place))))
   unfolding chooses
   chooses-as b e = rw e
 
@@ -190,6 +196,14 @@ module _ (m : List ℕ) (k : Core) where
   unfolding followsOn startMade
   follows-te = ap (λ x. x .te) (choice-flags m (idleDue k)) ∙ ap (λ x. x .flags .te) (idle-report k)
 
+  pub follows-message : followsOn m k .report .message ≡ k .report .message
+  unfolding followsOn startMade
+  follows-message = choice-message m (idleDue k) ∙ ap (λ x. x .message) (idle-report k)
+
+  pub follows-error : followsOn m k .report .error ≡ k .report .error
+  unfolding followsOn startMade
+  follows-error = choice-error m (idleDue k) ∙ ap (λ x. x .error) (idle-report k)
+
   -- the service after choice and start is that of the tally after them
   pub follows-service : (t : Tally) → k .service ≡ serviceOf t
       → followsOn m k .service ≡ serviceOf (startT (chooseT t m (longestOf k) (isActive (followsOn m k .activity .mode)) (followsOn m k .reception)) m (free (followsOn m k .line)) (followsOn m k .reception))
@@ -219,7 +233,7 @@ module _ (k : Core) (v : ℕ) where
       activated-service : activated k .service ≡ k .service
       activated-service = unfold activated in left (λ x. x .service) (isActive (k .activity .mode)) (withActivity k (inMode Active false)) (withLine (withActivity k (inMode Active false)) unsettled) (k .service) refl refl
 
-  mode-report : modeCommanded k v .report ≡ k .report
+  pub mode-report : modeCommanded k v .report ≡ k .report
   mode-report = mode-leaves (λ x. x .report) (idle-asked (λ x. x .report) refl) activated-report
     where
       activated-report : activated k .report ≡ k .report

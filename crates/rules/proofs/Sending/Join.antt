@@ -287,7 +287,7 @@ slot-settled t d v q h = slot-settled-in (t .stand) t d v refl q h
 
 -- ---- choice and start
 
-chosen-is : (m : List ℕ) (c : ℕ) → chosen m c ≡ serviceOf (chosenT m c)
+pub chosen-is : (m : List ℕ) (c : ℕ) → chosen m c ≡ serviceOf (chosenT m c)
 unfolding chosen resting chosenT none serviceOf serviceIn made countersOf noCounts atStage
 chosen-is m c = refl
 

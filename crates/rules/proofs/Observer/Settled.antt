@@ -1,0 +1,816 @@
+-- What every event leaves, by the observer.
+--   Leaves == the bytes, registers and bits of controller d that event e leaves        settled == over every list of events
+use Prim.Native.Nat.{ℕ, _+_, _%_, _≤_, _<_}
+use mathlib.Core.Bool.{Bool, true, false, not, false≢true}
+use mathlib.Core.List.{List, [], _∷_}
+use mathlib.Core.Path.{_≡_, refl, ap, _∙_, sym}
+use native.Mathlib.Omega.{arith}
+use borrow.Author.Tests.{le-ltb, eqb-true}
+use lib.Dec.{eqb, ltb, leb}
+use lib.ListN.{getD}
+use Rattle.line.specs.Bits.{pick}
+use Rattle.line.proofs.Laws.{picked, pick-same}
+use Rattle.rules.specs.Definitions.Setters.{withFlags, withReport, withService}
+use Rattle.rules.specs.Definitions.Longest.{longestOf}
+use Rattle.rules.specs.Definitions.Registers.{both, either, hasBit, lineControl, transmitControl, autonomous, command, interruptReset, asksSleep, asksRearbitration, writeOnly, BOV, unless, cleared, transmitted, resetReport}
+use Rattle.rules.specs.Definitions.Mailbox.{markedCher, markedChtx, resetMemory}
+use Rattle.rules.specs.Definitions.Channels.{acknowledgeAsked, base, cher, lowestReady}
+use Rattle.rules.specs.Definitions.Reception.{underWay, startEnded, dataCount}
+use Rattle.rules.specs.Definitions.Hearing.{fits}
+use Rattle.rules.specs.Definitions.Delivery.{delivered, deliveryTo, deliveryOf, memoryDelivered, receiveError, reportStored, reportHeard, reportDelivered}
+use Rattle.rules.specs.Definitions.Attempt.{atStage, inService, isServing, drivesFrame, isDriving, judge}
+use Rattle.rules.specs.Definitions.Service.{resting, stopped, settled, memoryEnded, retriesOf, reportSending, reportJudged, reportEnded, chosen, choiceOf, choose}
+use Rattle.rules.specs.Definitions.State.{isActive, serving, resetCore, idled, idleDue, slept}
+use Rattle.rules.specs.Definitions.Slots.{roleIn, heard, delivers, serviceJudged, ending, reportAfter, memoryJudged, coreJudged, chooses, choiceMade, startMade, followsOn, drives, sampleOf, judgedSlot, sampledSlot, activeSlot}
+use Rattle.rules.specs.Definitions.Host.{resetAll, resets, sleeps, modeCommanded, keptByte, flagsCleared, coreWritten, serviceAsked, stoppedCore, byteWritten, hostWritten}
+use Rattle.rules.specs.Definitions.Run.{fresh, accept, answered, restedSlot, step, next}
+use Rattle.rules.specs.Statements.Tally.{Stand, away, between, opening, inside, Tally, none, withStand, withAbort, withRear, countedIn, countedT, endedT, chosenT, choiceT, chooseIn, chooseT, startIn, startT, askedIn, askedT, asks, isAway}
+use Rattle.rules.specs.Statements.Observer.{freeO, Observer, atReset, hearsO, sampledO, idleO, goesOnO, accepted, nextO}
+use Rattle.rules.specs.Statements.Sending.{levelO, Agrees}
+use Rattle.rules.specs.Statements.Settled.{sentAll, exhaustedIn, pausing, abortedIn, endedMap, retriesT, fitting, heardDelivery, deliveredIn, deliveredMap, isStored, isSpoiled, judgedIn, hearingIn, deliveryIn, chosenIn, writtenMap, memoryO, zeroRetries, sendingO, messageO, codeHeard, overflows, errorO, flagO, rak, TxD, Settles, SettledOver}
+use Rattle.rules.proofs.Logic.{left, both-true}
+use Rattle.rules.proofs.Roles.{role-sender, role-other}
+use Rattle.rules.proofs.Steps.{Step, refusal, reset, wrote, gave, went, rested, step-of, refused-next, refused-not, accepted-next, accepted-so}
+use Rattle.rules.proofs.Ranges.Limits.{Fine}
+use Rattle.rules.proofs.Ranges.Reach.{fine-fresh, fine-next}
+use Rattle.rules.proofs.Sending.Join.{made, serviceIn, serviceOf, chosen-is}
+use Rattle.rules.proofs.Sending.Follow.{idle-service, idle-report, chooses-as, follows-message, follows-error, mode-report}
+use Rattle.rules.proofs.Sending.Bound.{asked-good}
+use Rattle.rules.proofs.Sending.Demand3 as demand
+use Rattle.rules.proofs.Sending.Demand3.{driven-is, asked-same, sampled-service}
+use Rattle.rules.proofs.Receiving.LogSteps.{sample-small}
+use Rattle.rules.proofs.Interrupts.Raised as flags
+use Rattle.rules.proofs.Observer.Agreed.{Same, hears-same, judgedCore, after, idled-core, idle-tally, serving-is, same-next, same-fresh, taken, active-is, followed-by, rested-by, agrees}
+use Rattle.rules.proofs.Observer.Ends.{restT, endT, stopped-is, on-service, off-service, retries-in, Tells, tells}
+use Rattle.rules.specs.declared.Flags.{Flags}
+use Rattle.rules.specs.declared.Retries.{Retries}
+use Rattle.rules.specs.declared.Report.{Report}
+use Rattle.rules.specs.declared.Choice.{Choice}
+use Rattle.rules.specs.declared.Choice.the-variants as choice
+use Rattle.rules.specs.declared.Reception.{Reception}
+use Rattle.rules.specs.declared.Hearing.{Hearing}
+use Rattle.rules.specs.declared.Hearing.the-variants.{Silent, Follows, Fault, Good}
+use Rattle.rules.specs.declared.Delivery.{Delivery}
+use Rattle.rules.specs.declared.Delivery.the-variants.{Nothing, Stored, Overflowed, Spoiled}
+use Rattle.rules.specs.declared.Service.{Service}
+use Rattle.rules.specs.declared.Verdict.{Verdict}
+use Rattle.rules.specs.declared.Verdict.the-variants.{Unjudged, Goes, Lost, Failed, Done}
+use Rattle.rules.specs.declared.Ending.{Ending}
+use Rattle.rules.specs.declared.Ending.the-variants.{Going, Sent, Exhausted, Aborted, Rearbitrated}
+use Rattle.rules.specs.declared.Role.{Role}
+use Rattle.rules.specs.declared.Role.the-variants.{Nobody, Receiver, Sender}
+use Rattle.rules.specs.declared.Core.{Core}
+use Rattle.rules.specs.declared.Controller.{Controller}
+use Rattle.rules.specs.declared.Answer.{Answer}
+use Rattle.rules.specs.declared.Event.{Event}
+use Rattle.rules.specs.declared.Event.the-variants.{Reset, Write, Read, Slot}
+
+-- ---- what another module's frame does
+
+heard-delivery : (h : Hearing) (r : Reception) → deliveryOf h r ≡ heardDelivery h r
+unfolding deliveryOf deliveryTo heardDelivery delivered fits fitting
+heard-delivery Silent r = pick-same (r .winner .matched) Nothing
+heard-delivery Follows r = pick-same (r .winner .matched) Nothing
+heard-delivery (Fault code) r = refl
+heard-delivery Good r = refl
+
+delivered-in : (x : Stand) (k : Core) (t : Tally) (h : Hearing) → k .service ≡ serviceIn x t → delivers (roleIn k) h (k .reception) ≡ deliveredIn x h (k .reception)
+unfolding serviceIn deliveredIn
+delivered-in x k t h = go x
+  where
+    other : drivesFrame (k .service .effort .progress) ≡ false → delivers (roleIn k) h (k .reception) ≡ pick (underWay (k .reception .place)) (heardDelivery h (k .reception)) Nothing
+    other d = rw (role-other (k .service .effort .progress) (k .reception .place) d) (by (underWay (k .reception .place)))
+      where
+        by : (u : Bool) → delivers (pick u Receiver Nobody) h (k .reception) ≡ pick u (heardDelivery h (k .reception)) Nothing
+        by true = unfold delivers in heard-delivery h (k .reception)
+        by false = unfold delivers in refl
+
+    own : drivesFrame (k .service .effort .progress) ≡ true → delivers (roleIn k) h (k .reception) ≡ Nothing
+    own d = rw (role-sender (k .service .effort .progress) (k .reception .place) d) (unfold delivers in refl)
+
+    go : (x : Stand) → k .service ≡ serviceIn x t → delivers (roleIn k) h (k .reception) ≡ deliveredIn x h (k .reception)
+    go away e = other (rw e (unfold resting atStage drivesFrame isDriving in refl))
+    go between e = other (rw e (unfold made atStage drivesFrame isDriving in refl))
+    go (opening start) e = own (rw e (unfold made atStage drivesFrame isDriving in refl))
+    go (inside start levels) e = own (rw e (unfold made atStage drivesFrame isDriving in refl))
+
+delivered-map : (d : Delivery) (m : List ℕ) (r : Reception) → memoryDelivered d m r ≡ deliveredMap d m r
+unfolding memoryDelivered deliveredMap
+delivered-map Nothing m r = refl
+delivered-map Stored m r = refl
+delivered-map Overflowed m r = refl
+delivered-map Spoiled m r = refl
+
+-- ---- the marks of a service that ends
+
+marked : (a b c d : Bool) (m : List ℕ) (n : ℕ) → memoryEnded (pick a Sent (pick b Exhausted (pick c Aborted (pick d Rearbitrated Going)))) m n
+    ≡ pick a (markedChtx m n) (pick b (markedChtx (markedCher m n) n) (pick c (markedChtx m n) m))
+unfolding memoryEnded
+marked true b c d m n = refl
+marked false true c d m n = refl
+marked false false true d m n = refl
+marked false false false true m n = refl
+marked false false false false m n = refl
+
+-- where no service was, none ends
+pub record Unended (j : Tally) : Type 0 where
+  pub errors : exhaustedIn j ≡ false
+  pub abort : abortedIn j ≡ false
+
+ended-map : (t j : Tally) (m : List ℕ) (n : ℕ) → (isAway (t .stand) ≡ false → n ≡ t .channel) → (isAway (t .stand) ≡ true → Unended j) → memoryEnded (endT t j) m n ≡ endedMap t j m
+unfolding endT restT endedMap sentAll
+ended-map t j m n q z = go (isAway (t .stand)) refl
+  where
+    go : (b : Bool) → isAway (t .stand) ≡ b
+        → memoryEnded (pick (both (not b) (isAway (j .stand))) Sent (pick (exhaustedIn j) Exhausted (pick (abortedIn j) Aborted (pick (both (pausing (j .stand)) (j .rear)) Rearbitrated Going)))) m n
+        ≡ pick (both (not b) (isAway (j .stand))) (markedChtx m (t .channel)) (pick (exhaustedIn j) (markedChtx (markedCher m (t .channel)) (t .channel)) (pick (abortedIn j) (markedChtx m (t .channel)) m))
+    go true e = let u = z e in rw (u .errors, u .abort) (marked false false false (both (pausing (j .stand)) (j .rear)) m n)
+    go false e = rw (q e) (marked (isAway (j .stand)) (exhaustedIn j) (abortedIn j) (both (pausing (j .stand)) (j .rear)) m (t .channel))
+
+away-unended : (t j : Tally) → j ≡ t → isAway (t .stand) ≡ true → t .errors ≤ t .setting → Unended j
+away-unended t j e a h = rw e (record { errors = unfold exhaustedIn in le-ltb (t .setting) (t .errors) h; abort = unfold abortedIn in rw (none-pauses (t .stand) a) })
+  where
+    none-pauses : (x : Stand) → isAway x ≡ true → pausing x ≡ false
+    none-pauses away i = unfold pausing in refl
+    none-pauses between i = absurd (false≢true (unfold isAway in i))
+    none-pauses (opening start) i = absurd (false≢true (unfold isAway in i))
+    none-pauses (inside start levels) i = absurd (false≢true (unfold isAway in i))
+
+away-counted : (t : Tally) (d v : ℕ) → isAway (t .stand) ≡ true → countedT t d v ≡ t
+unfolding countedT
+away-counted t d v = go (t .stand)
+  where
+    go : (x : Stand) → isAway x ≡ true → countedIn x t d v ≡ t
+    go away a = unfold countedIn in refl
+    go between a = absurd (false≢true (unfold isAway in a))
+    go (opening start) a = absurd (false≢true (unfold isAway in a))
+    go (inside start levels) a = absurd (false≢true (unfold isAway in a))
+
+away-asked : (t : Tally) (a v : ℕ) → isAway (t .stand) ≡ true → askedT t a v ≡ t
+unfolding askedT
+away-asked t b v = go (t .stand)
+  where
+    go : (x : Stand) → isAway x ≡ true → askedIn x t b v ≡ t
+    go away a = unfold askedIn in refl
+    go between a = absurd (false≢true (unfold isAway in a))
+    go (opening start) a = absurd (false≢true (unfold isAway in a))
+    go (inside start levels) a = absurd (false≢true (unfold isAway in a))
+
+-- ---- the registers
+
+leaves-ended : {B : Type 0} (f : Report → B) → ((x : Report) (r : Retries) (g : Flags) → f (record { sending = x .sending; message = r; error = x .error; flags = g }) ≡ f x)
+    → (x : Ending) (r : Report) (s : Service) → f (reportEnded x r s) ≡ f r
+unfolding reportEnded
+leaves-ended f h Going r s = refl
+leaves-ended f h Sent r s = h r _ _
+leaves-ended f h Exhausted r s = h r _ _
+leaves-ended f h Aborted r s = refl
+leaves-ended f h Rearbitrated r s = refl
+
+leaves-judged : {B : Type 0} (f : Report → B) → ((x : Report) (r : Retries) → f (record { sending = r; message = x .message; error = x .error; flags = x .flags }) ≡ f x)
+    → (w : Verdict) (x : Report) (s : Service) → f (reportJudged w x s) ≡ f x
+unfolding reportJudged reportSending
+leaves-judged f h Unjudged x s = refl
+leaves-judged f h Goes x s = refl
+leaves-judged f h Lost x s = refl
+leaves-judged f h (Failed code) x s = h x _
+leaves-judged f h Done x s = refl
+
+message-ended : (a b c d : Bool) (r : Report) (s : Service) → reportEnded (pick a Sent (pick b Exhausted (pick c Aborted (pick d Rearbitrated Going)))) r s .message ≡ pick (either a b) (retriesOf s) (r .message)
+unfolding reportEnded
+message-ended true b c d r s = refl
+message-ended false true c d r s = refl
+message-ended false false true d r s = refl
+message-ended false false false true r s = refl
+message-ended false false false false r s = refl
+
+message-delivered : (d : Delivery) (x : Report) (r : Reception) → reportDelivered d x r .message ≡ pick (isStored d) (record { count = 0; channel = r .winner .channel }) (x .message)
+unfolding reportDelivered reportStored receiveError isStored
+message-delivered Nothing x r = refl
+message-delivered Stored x r = refl
+message-delivered Overflowed x r = refl
+message-delivered Spoiled x r = refl
+
+sending-delivered : (d : Delivery) (x : Report) (r : Reception) → reportDelivered d x r .sending ≡ x .sending
+unfolding reportDelivered reportStored receiveError
+sending-delivered Nothing x r = refl
+sending-delivered Stored x r = refl
+sending-delivered Overflowed x r = refl
+sending-delivered Spoiled x r = refl
+
+leaves-heard : {B : Type 0} (f : Report → B) → ((x : Report) (code : ℕ) → f (record { sending = x .sending; message = x .message; error = code; flags = x .flags }) ≡ f x)
+    → (h : Hearing) (x : Report) → f (reportHeard h x) ≡ f x
+unfolding reportHeard
+leaves-heard f e Silent x = refl
+leaves-heard f e Follows x = refl
+leaves-heard f e (Fault code) x = e x code
+leaves-heard f e Good x = refl
+
+-- 0x07, the delivery as the sample makes it
+none-error : (h : Hearing) (x : Report) (r : Reception) → reportDelivered Nothing (reportHeard h x) r .error ≡ pick (overflows h Nothing) BOV (codeHeard h (x .error))
+unfolding reportDelivered reportHeard overflows codeHeard isSpoiled
+none-error Silent x r = refl
+none-error Follows x r = refl
+none-error (Fault code) x r = refl
+none-error Good x r = refl
+
+heard-error : (h : Hearing) (x : Report) (r : Reception) → reportDelivered (heardDelivery h r) (reportHeard h x) r .error ≡ pick (overflows h (heardDelivery h r)) BOV (codeHeard h (x .error))
+unfolding heardDelivery reportHeard overflows codeHeard
+heard-error Silent x r = unfold reportDelivered in refl
+heard-error Follows x r = unfold reportDelivered in refl
+heard-error (Fault code) x r = go (r .winner .matched)
+  where
+    go : (b : Bool) → reportDelivered (pick b Spoiled Nothing) (record { sending = x .sending; message = x .message; error = code; flags = x .flags }) r .error ≡ code
+    go true = unfold reportDelivered receiveError in refl
+    go false = unfold reportDelivered in refl
+heard-error Good x r = go (r .winner .matched) (fitting r)
+  where
+    go : (a b : Bool) → reportDelivered (pick a (pick b Stored Overflowed) Nothing) x r .error ≡ pick (isSpoiled (pick a (pick b Stored Overflowed) Nothing)) BOV (x .error)
+    go true true = unfold reportDelivered reportStored isSpoiled in refl
+    go true false = unfold reportDelivered receiveError isSpoiled in refl
+    go false b = unfold reportDelivered isSpoiled in refl
+
+error-in : (s : Stand) (h : Hearing) (x : Report) (r : Reception) → reportDelivered (deliveredIn s h r) (reportHeard h x) r .error ≡ pick (overflows h (deliveredIn s h r)) BOV (codeHeard h (x .error))
+unfolding deliveredIn
+error-in s h x r = go s
+  where
+    P : Delivery → Type 0
+    P d = reportDelivered d (reportHeard h x) r .error ≡ pick (overflows h d) BOV (codeHeard h (x .error))
+
+    by : (u : Bool) → P (pick u (heardDelivery h r) Nothing)
+    by true = heard-error h x r
+    by false = none-error h x r
+
+    go : (s : Stand) → P (deliveredIn s h r)
+    go away = by (underWay (r .place))
+    go between = by (underWay (r .place))
+    go (opening start) = none-error h x r
+    go (inside start levels) = none-error h x r
+
+-- ---- the choice
+
+start-retries : (t : Tally) (m : List ℕ) (b : Bool) (r : Reception) → retriesT (startT t m b r) ≡ retriesT t
+unfolding startT startIn retriesT
+start-retries t m b r = go (t .stand)
+  where
+    P : Tally → Type 0
+    P x = retriesT x ≡ retriesT t
+
+    go : (x : Stand) → P (startIn x t m b r)
+    go away = refl
+    go between =
+        picked P (startEnded r) (withStand t (opening 10)) _ (λ e. refl)
+        (λ e. picked P (underWay (r .place)) t _ (λ d. refl) (λ d. picked P (both (autonomous (getD m transmitControl 0)) b) (withStand t (opening 0)) t (λ i. refl) (λ i. refl)))
+    go (opening start) = refl
+    go (inside start levels) = refl
+
+start-stays : (t : Tally) (m : List ℕ) (b : Bool) (r : Reception) → isAway (startT t m b r .stand) ≡ isAway (t .stand)
+unfolding startT startIn
+start-stays t m b r = go (t .stand) refl
+  where
+    P : Tally → Type 0
+    P x = isAway (x .stand) ≡ false
+
+    opens : isAway (t .stand) ≡ false → P (startIn between t m b r)
+    opens e =
+        picked P (startEnded r) (withStand t (opening 10)) _ (λ d. unfold isAway in refl)
+        (λ d. picked P (underWay (r .place)) t _ (λ i. e) (λ i. picked P (both (autonomous (getD m transmitControl 0)) b) (withStand t (opening 0)) t (λ k. unfold isAway in refl) (λ k. e)))
+
+    go : (x : Stand) → t .stand ≡ x → isAway (startIn x t m b r .stand) ≡ isAway (t .stand)
+    go away h = refl
+    go between h =
+        let e : isAway (t .stand) ≡ false = rw h (unfold isAway in refl) in
+        let q : isAway (startIn between t m b r .stand) ≡ false = opens e in
+        q ∙ sym e
+    go (opening start) h = refl
+    go (inside start levels) h = refl
+
+module _ (m : List ℕ) (k : Core) where
+  abbrev Shown : Tally → Tally → Type 0
+  Shown t u = choiceMade m k .report .sending ≡ pick (both (isAway (t .stand)) (not (isAway (u .stand)))) (retriesT u) (k .report .sending)
+
+  chosen-serves : (n : ℕ) → isAway (chosenT m n .stand) ≡ false
+  unfolding chosenT isAway
+  chosen-serves n = refl
+
+  chosen-retries : (n : ℕ) → retriesOf (chosen m n) ≡ retriesT (chosenT m n)
+  unfolding serviceOf
+  chosen-retries n = ap retriesOf (chosen-is m n) ∙ retries-in (chosenT m n .stand) (chosenT m n) (chosen-serves n) (unfold chosenT none in omega arith)
+
+  lowest-shown : (n : ℕ) → pick (serving (chosen m n)) (withService (withReport k (reportSending (k .report) (chosen m n))) (chosen m n)) k .report .sending
+      ≡ pick (not (isAway (chosenT m n .stand))) (retriesT (chosenT m n)) (k .report .sending)
+  unfolding reportSending
+  lowest-shown n =
+      let e : serving (chosen m n) ≡ true = serving-is (chosen m n) (chosenT m n) (chosen-is m n) ∙ ap not (chosen-serves n) in
+      rw (e, chosen-serves n) (chosen-retries n)
+
+  chosen-shown : (x : Choice) → pick (serving (choiceOf m x)) (withService (withReport k (reportSending (k .report) (choiceOf m x))) (choiceOf m x)) k .report .sending
+      ≡ pick (not (isAway (choiceT m x .stand))) (retriesT (choiceT m x)) (k .report .sending)
+  unfolding choiceOf choiceT
+  chosen-shown choice.Nothing = unfold serving resting inService isServing atStage none isAway in refl
+  chosen-shown (choice.Lowest n) = lowest-shown n
+
+  away-shown : (t : Tally) → t .stand ≡ away → serving (k .service) ≡ false → Shown t (chooseIn away t m (longestOf k) (isActive (k .activity .mode)) (k .reception))
+  unfolding choiceMade chooseIn choose
+  away-shown t e s = rw (chooses-as m k false s) (go (isActive (k .activity .mode)) (underWay (k .reception .place)))
+    where
+      a : isAway (t .stand) ≡ true
+      a = rw e (unfold isAway in refl)
+
+      go : (b u : Bool) → pick (both b (both (not false) (not u))) (pick (serving (choiceOf m (lowestReady m (longestOf k)))) (withService (withReport k (reportSending (k .report) (choiceOf m (lowestReady m (longestOf k))))) (choiceOf m (lowestReady m (longestOf k)))) k) k .report .sending
+          ≡ pick (both (isAway (t .stand)) (not (isAway (pick b (pick u t (choiceT m (lowestReady m (longestOf k)))) t .stand)))) (retriesT (pick b (pick u t (choiceT m (lowestReady m (longestOf k)))) t)) (k .report .sending)
+      go false u = rw a
+      go true true = rw a
+      go true false = rw a (chosen-shown (lowestReady m (longestOf k)))
+
+  busy-shown : (t u : Tally) → isAway (t .stand) ≡ false → serving (k .service) ≡ true → Shown t u
+  unfolding choiceMade
+  busy-shown t u a s = rw (chooses-as m k true s, a) (go (isActive (k .activity .mode)))
+    where
+      go : (b : Bool) → pick (both b (both (not true) (not (underWay (k .reception .place))))) (pick (serving (choose m (longestOf k))) (withService (withReport k (reportSending (k .report) (choose m (longestOf k)))) (choose m (longestOf k))) k) k .report .sending ≡ k .report .sending
+      go true = refl
+      go false = refl
+
+  choice-shown : (t : Tally) → k .service ≡ serviceOf t → Shown t (chooseT t m (longestOf k) (isActive (k .activity .mode)) (k .reception))
+  unfolding chooseT
+  choice-shown t e = go (t .stand) refl
+    where
+      s : serving (k .service) ≡ not (isAway (t .stand))
+      s = serving-is (k .service) t e
+
+      go : (x : Stand) → t .stand ≡ x → Shown t (chooseIn x t m (longestOf k) (isActive (k .activity .mode)) (k .reception))
+      go away h = away-shown t h (s ∙ rw h (unfold isAway in refl))
+      go between h = busy-shown t _ (rw h (unfold isAway in refl)) (s ∙ rw h (unfold isAway in refl))
+      go (opening start) h = busy-shown t _ (rw h (unfold isAway in refl)) (s ∙ rw h (unfold isAway in refl))
+      go (inside start levels) h = busy-shown t _ (rw h (unfold isAway in refl)) (s ∙ rw h (unfold isAway in refl))
+
+-- ---- a slot of an active controller
+
+follows-sending : (m : List ℕ) (k : Core) → followsOn m k .report .sending ≡ choiceMade m (idleDue k) .report .sending
+unfolding followsOn startMade
+follows-sending m k = refl
+
+module _ (c : Controller) (o : Observer) (s : Same c o) (l : ℕ) where
+  abbrev v : ℕ
+  v = sampleOf c l
+
+  abbrev w : Verdict
+  w = judge (c .core .service .effort) v
+
+  abbrev t : Tally
+  t = o .tally
+
+  abbrev j : Tally
+  j = judgedIn c o l
+
+  abbrev r : Reception
+  r = c .core .reception
+
+  abbrev done : Service
+  done = serviceJudged w (c .core .service)
+
+  told : Tells t j w done
+  told = tells (c .core .service) t (drives (c .core)) v (s .joined .service) (driven-is c t (s .joined)) (s .joined .good .errors) (s .joined .good .setting)
+
+  ends : ending (c .core) w ≡ endT t j
+  unfolding ending
+  ends = told .ending
+
+  hears : heard (c .core) w v ≡ hearingIn c o l
+  hears = hears-same c o s v (sample-small c l)
+
+  does : delivers (roleIn (c .core)) (heard (c .core) w v) r ≡ deliveryIn c o l
+  does =
+      delivered-in (t .stand) (c .core) t (heard (c .core) w v) (unfold serviceOf in (s .joined .service))
+      ∙ ap (λ (h : Hearing). deliveredIn (t .stand) h r) hears ∙ ap (λ (x : Reception). deliveredIn (t .stand) (hearingIn c o l) x) (s .core .frame)
+
+  unended : isAway (t .stand) ≡ true → Unended j
+  unended a = away-unended t j (away-counted t (drives (c .core)) v a) a (s .joined .good .errors)
+
+  slot-map : sampledSlot c v .memory ≡ endedMap t j (deliveredMap (deliveryIn c o l) (c .memory) (o .frame))
+  unfolding sampledSlot judgedSlot memoryJudged
+  slot-map =
+      let n : ℕ = c .core .service .channel in
+      ap (λ (x : Ending). memoryEnded x (memoryDelivered (delivers (roleIn (c .core)) (heard (c .core) w v) r) (c .memory) r) n) ends
+      ∙ ap (λ (d : Delivery). memoryEnded (endT t j) (memoryDelivered d (c .memory) r) n) does
+      ∙ ap (λ (x : Reception). memoryEnded (endT t j) (memoryDelivered (deliveryIn c o l) (c .memory) x) n) (s .core .frame)
+      ∙ ap (λ (m : List ℕ). memoryEnded (endT t j) m n) (delivered-map (deliveryIn c o l) (c .memory) (o .frame))
+      ∙ ended-map t j (deliveredMap (deliveryIn c o l) (c .memory) (o .frame)) n (λ a. agrees c o s .counts a .channel) unended
+
+  -- the registers once the sample's effects are taken
+  abbrev was : Report
+  was = c .core .report
+
+  abbrev heardReport : Report
+  heardReport = reportHeard (heard (c .core) w v) was
+
+  abbrev shown : Report
+  shown = reportDelivered (delivers (roleIn (c .core)) (heard (c .core) w v) r) heardReport r
+
+  shown-message : reportJudged w shown done .message ≡ pick (isStored (deliveryIn c o l)) (record { count = 0; channel = o .frame .winner .channel }) (was .message)
+  shown-message =
+      leaves-judged (λ x. x .message) (λ x y. refl) w shown done
+      ∙ message-delivered (delivers (roleIn (c .core)) (heard (c .core) w v) r) heardReport r
+      ∙ ap (λ (d : Delivery). pick (isStored d) (record { count = 0; channel = r .winner .channel }) (heardReport .message)) does
+      ∙ ap (λ (x : Reception). pick (isStored (deliveryIn c o l)) (record { count = 0; channel = x .winner .channel }) (heardReport .message)) (s .core .frame)
+      ∙ ap (λ (x : Retries). pick (isStored (deliveryIn c o l)) (record { count = 0; channel = o .frame .winner .channel }) x) (leaves-heard (λ x. x .message) (λ x y. refl) (heard (c .core) w v) was)
+
+  -- 0x06 shows a service's figures only where one ends
+  ended-retries : (x : Retries) → pick (either (sentAll t j) (exhaustedIn j)) (retriesOf done) x ≡ pick (either (sentAll t j) (exhaustedIn j)) (retriesT j) x
+  unfolding sentAll
+  ended-retries x = go (isAway (t .stand)) refl
+    where
+      go : (b : Bool) → isAway (t .stand) ≡ b → pick (either (both (not b) (isAway (j .stand))) (exhaustedIn j)) (retriesOf done) x ≡ pick (either (both (not b) (isAway (j .stand))) (exhaustedIn j)) (retriesT j) x
+      go true e = rw (unended e .errors)
+      go false e = rw (told .retries e)
+
+  after-message : reportAfter (c .core) w (heard (c .core) w v) .message
+      ≡ pick (either (sentAll t j) (exhaustedIn j)) (retriesT j) (pick (isStored (deliveryIn c o l)) (record { count = 0; channel = o .frame .winner .channel }) (was .message))
+  unfolding reportAfter
+  after-message =
+      let e : reportEnded (endT t j) (reportJudged w shown done) done .message ≡ pick (either (sentAll t j) (exhaustedIn j)) (retriesOf done) (reportJudged w shown done .message) =
+      unfold endT restT in message-ended (sentAll t j) (exhaustedIn j) (abortedIn j) (both (pausing (j .stand)) (j .rear)) (reportJudged w shown done) done in
+      ap (λ (x : Ending). reportEnded x (reportJudged w shown done) done .message) ends ∙ e
+      ∙ ap (λ (x : Retries). pick (either (sentAll t j) (exhaustedIn j)) (retriesOf done) x) shown-message ∙ ended-retries _
+
+  after-error : reportAfter (c .core) w (heard (c .core) w v) .error ≡ pick (overflows (hearingIn c o l) (deliveryIn c o l)) BOV (codeHeard (hearingIn c o l) (was .error))
+  unfolding reportAfter
+  after-error =
+      leaves-ended (λ x. x .error) (λ x y z. refl) (ending (c .core) w) (reportJudged w shown done) done
+      ∙ leaves-judged (λ x. x .error) (λ x y. refl) w shown done
+      ∙ ap (λ (d : Delivery). reportDelivered d heardReport r .error) (delivered-in (t .stand) (c .core) t (heard (c .core) w v) (unfold serviceOf in (s .joined .service)))
+      ∙ error-in (t .stand) (heard (c .core) w v) was r
+      ∙ rw (hears, s .core .frame)
+
+  after-sending : reportAfter (c .core) w (heard (c .core) w v) .sending ≡ pick (ltb (t .errors) (j .errors)) (retriesT j) (was .sending)
+  unfolding reportAfter
+  after-sending =
+      leaves-ended (λ x. x .sending) (λ x y z. refl) (ending (c .core) w) (reportJudged w shown done) done
+      ∙ told .sending shown
+      ∙ ap (λ (x : Retries). pick (ltb (t .errors) (j .errors)) (retriesT j) x)
+      (sending-delivered (delivers (roleIn (c .core)) (heard (c .core) w v) r) heardReport r ∙ leaves-heard (λ x. x .sending) (λ x y. refl) (heard (c .core) w v) was)
+
+  abbrev m : List ℕ
+  m = sampledSlot c v .memory
+
+  slot-report : sampledSlot c v .core .report ≡ followsOn m (judgedCore c v) .report
+  unfolding sampledSlot judgedSlot judgedCore
+  slot-report = refl
+
+  judged-report : judgedCore c v .report ≡ reportAfter (c .core) w (heard (c .core) w v)
+  unfolding judgedCore coreJudged
+  judged-report = refl
+
+  slot-message : sampledSlot c v .core .report .message
+      ≡ pick (either (sentAll t j) (exhaustedIn j)) (retriesT j) (pick (isStored (deliveryIn c o l)) (record { count = 0; channel = o .frame .winner .channel }) (was .message))
+  slot-message = ap (λ (x : Report). x .message) slot-report ∙ follows-message m (judgedCore c v) ∙ ap (λ (x : Report). x .message) judged-report ∙ after-message
+
+  slot-error : sampledSlot c v .core .report .error ≡ pick (overflows (hearingIn c o l) (deliveryIn c o l)) BOV (codeHeard (hearingIn c o l) (was .error))
+  slot-error = ap (λ (x : Report). x .error) slot-report ∙ follows-error m (judgedCore c v) ∙ ap (λ (x : Report). x .error) judged-report ∙ after-error
+
+  -- the tally after the choice, and after the start
+  abbrev chosenTally : Tally
+  chosenTally = chooseT (endedT j) m (longestOf (c .core)) (isActive (after c o v m .activity .mode)) (after c o v m .frame)
+
+  judged-service : judgedCore c v .service ≡ serviceOf (endedT j)
+  unfolding judgedCore
+  judged-service = sampled-service c t (s .joined) v m
+
+  shown-choice : choiceMade m (idleDue (judgedCore c v)) .report .sending
+      ≡ pick (both (isAway (endedT j .stand)) (not (isAway (chosenTally .stand)))) (retriesT chosenTally) (pick (ltb (t .errors) (j .errors)) (retriesT j) (was .sending))
+  shown-choice =
+      let k : Core = idleDue (judgedCore c v) in
+      let i = idled-core c o s v (sample-small c l) in
+      choice-shown m k (endedT j) (idle-service (judgedCore c v) ∙ judged-service)
+      ∙ rw (i .activity, i .frame)
+      (ap (λ (x : Retries). pick (both (isAway (endedT j .stand)) (not (isAway (chosenTally .stand)))) (retriesT chosenTally) x)
+      (ap (λ (x : Report). x .sending) (idle-report (judgedCore c v) ∙ judged-report) ∙ after-sending))
+
+  tally-after : goesOnO (after c o v m) (longestOf (c .core)) m .tally ≡ startT chosenTally m (freeO (after c o v m .line)) (after c o v m .frame)
+  unfolding goesOnO
+  tally-after =
+      let e : after c o v m .tally ≡ endedT j = idle-tally (sampledO o (longestOf (c .core)) (drives (c .core)) v m) ∙ unfold sampledO in refl in
+      rw e
+
+  slot-sending : (u : Observer) → u ≡ goesOnO (after c o v m) (longestOf (c .core)) m → sampledSlot c v .core .report .sending
+      ≡ pick (both (isAway (endedT j .stand)) (not (isAway (u .tally .stand)))) (retriesT (u .tally)) (pick (ltb (t .errors) (j .errors)) (retriesT j) (was .sending))
+  slot-sending u e =
+      let q : u .tally ≡ startT chosenTally m (freeO (after c o v m .line)) (after c o v m .frame) = ap (λ (x : Observer). x .tally) e ∙ tally-after in
+      ap (λ (x : Report). x .sending) slot-report ∙ follows-sending m (judgedCore c v) ∙ shown-choice
+      ∙ rw (q, start-stays chosenTally m (freeO (after c o v m .line)) (after c o v m .frame), start-retries chosenTally m (freeO (after c o v m .line)) (after c o v m .frame))
+
+-- ---- the six bits of a slot
+
+sent-is : (a b c d : Bool) → flags.isSent (pick a Sent (pick b Exhausted (pick c Aborted (pick d Rearbitrated Going)))) ≡ a
+unfolding flags.isSent
+sent-is true b c d = refl
+sent-is false true c d = refl
+sent-is false false true d = refl
+sent-is false false false true = refl
+sent-is false false false false = refl
+
+-- ---- what an event leaves, where it is accepted
+
+pub record Leaves (c : Controller) (o : Observer) (e : Event) (d : Controller) : Type 0 where
+  pub memory : d .memory ≡ memoryO c o e
+  pub sending : d .core .report .sending ≡ sendingO c o e
+  pub message : d .core .report .message ≡ messageO c o e
+  pub error : d .core .report .error ≡ errorO c o e
+  pub rst : d .core .report .flags .rst ≡ flagO true 7 (λ levels. false) (c .core .report .flags .rst) o e
+  pub te : d .core .report .flags .te ≡ flagO false 4 (λ levels. exhaustedIn (judgedIn c o levels)) (c .core .report .flags .te) o e
+  pub tok : d .core .report .flags .tok ≡ flagO false 3 (λ levels. sentAll (o .tally) (judgedIn c o levels)) (c .core .report .flags .tok) o e
+  pub re : d .core .report .flags .re ≡ flagO false 2 (λ levels. isSpoiled (deliveryIn c o levels)) (c .core .report .flags .re) o e
+  pub rok : d .core .report .flags .rok ≡ flagO false 1 (λ levels. both (isStored (deliveryIn c o levels)) (rak o)) (c .core .report .flags .rok) o e
+  pub rnok : d .core .report .flags .rnok ≡ flagO false 0 (λ levels. both (isStored (deliveryIn c o levels)) (not (rak o))) (c .core .report .flags .rnok) o e
+
+reset-leaves : (c : Controller) (o : Observer) → Leaves c o Reset (resetAll c)
+unfolding resetAll resetCore resetReport memoryO sendingO messageO errorO zeroRetries flagO
+reset-leaves c o = record { memory = refl; sending = refl; message = refl; error = refl; rst = refl; te = refl; tok = refl; re = refl; rok = refl; rnok = refl }
+
+read-leaves : (c : Controller) (o : Observer) (a : ℕ) → Leaves c o (Read a) c
+unfolding memoryO sendingO messageO errorO flagO
+read-leaves c o a = record { memory = refl; sending = refl; message = refl; error = refl; rst = refl; te = refl; tok = refl; re = refl; rok = refl; rnok = refl }
+
+rest-leaves : (c : Controller) (o : Observer) (l : ℕ) → isActive (o .activity .mode) ≡ false → Leaves c o (Slot l) c
+unfolding memoryO sendingO messageO errorO flagO
+rest-leaves c o l a = record { memory = rw a; sending = rw a; message = rw a; error = rw a; rst = rw a; te = rw a; tok = rw a; re = rw a; rok = rw a; rnok = rw a }
+
+module _ (c : Controller) (o : Observer) (s : Same c o) (l : ℕ) (a : isActive (o .activity .mode) ≡ true) where
+  asked-rak : flags.asked (c .core .reception) ≡ rak o
+  unfolding flags.asked
+  asked-rak = ap (λ (x : Reception). acknowledgeAsked (getD (x .bytes) 1 0)) (s .core .frame)
+
+  slot-te : sampledSlot c (sampleOf c l) .core .report .flags .te ≡ pick (exhaustedIn (judgedIn c o l)) true (c .core .report .flags .te)
+  unfolding exhaustedIn
+  slot-te = demand.slot-te c (o .tally) (s .joined) (sampleOf c l)
+
+  slot-tok : sampledSlot c (sampleOf c l) .core .report .flags .tok ≡ pick (sentAll (o .tally) (judgedIn c o l)) true (c .core .report .flags .tok)
+  slot-tok =
+      let e : flags.isSent (endT (o .tally) (judgedIn c o l)) ≡ sentAll (o .tally) (judgedIn c o l) = unfold endT restT in sent-is (sentAll (o .tally) (judgedIn c o l)) (exhaustedIn (judgedIn c o l)) (abortedIn (judgedIn c o l)) (both (pausing (judgedIn c o l .stand)) (judgedIn c o l .rear)) in
+      flags.slot-tok c (sampleOf c l) ∙ ap (λ (x : Ending). pick (flags.isSent x) true (c .core .report .flags .tok)) (ends c o s l) ∙ ap (λ (b : Bool). pick b true (c .core .report .flags .tok)) e
+
+  slot-leaves : nextO c o (Slot l) ≡ goesOnO (after c o (sampleOf c l) (sampledSlot c (sampleOf c l) .memory)) (longestOf (c .core)) (sampledSlot c (sampleOf c l) .memory)
+      → Leaves c o (Slot l) (sampledSlot c (sampleOf c l))
+  unfolding memoryO sendingO messageO errorO flagO
+  slot-leaves n =
+      let v : ℕ = sampleOf c l in
+      record {
+        memory = rw a (slot-map c o s l);
+        sending = rw a (slot-sending c o s l (nextO c o (Slot l)) n);
+        message = rw a (slot-message c o s l);
+        error = rw a (slot-error c o s l);
+        rst = rw a (flags.slot-rst c v);
+        te = rw a slot-te;
+        tok = rw a slot-tok;
+        re = rw a (flags.slot-re c v ∙ ap (λ (d : Delivery). pick (isSpoiled d) true (c .core .report .flags .re)) (does c o s l));
+        rok = rw a (flags.slot-rok c v ∙ rw (does c o s l, asked-rak));
+        rnok = rw a (flags.slot-rnok c v ∙ rw (does c o s l, asked-rak));
+      }
+
+-- ---- a host write
+
+asked-stays : (t : Tally) (a v : ℕ) → isAway (askedT t a v .stand) ≡ isAway (t .stand)
+unfolding askedT askedIn
+asked-stays t a v = go (t .stand) refl
+  where
+    asks-stays : asks t a v .stand ≡ t .stand
+    asks-stays =
+        unfold asks in
+        left (λ (x : Tally). x .stand) (eqb a command) (pick (asksRearbitration v) (withRear t true) t) (pick (both (eqb a (base (t .channel) + 3)) (cher v)) (withAbort t true) t) (t .stand)
+        (left (λ (x : Tally). x .stand) (asksRearbitration v) (withRear t true) t (t .stand) refl refl)
+        (left (λ (x : Tally). x .stand) (both (eqb a (base (t .channel) + 3)) (cher v)) (withAbort t true) t (t .stand) refl refl)
+
+    go : (x : Stand) → t .stand ≡ x → isAway (askedIn x t a v .stand) ≡ isAway (t .stand)
+    go away h = refl
+    go between h = ap isAway asks-stays
+    go (opening start) h = ap isAway asks-stays
+    go (inside start levels) h = ap isAway asks-stays
+
+quiet-ended : (u : Tally) (x : Report) (s : Service) → exhaustedIn u ≡ false → reportEnded (restT u) x s ≡ x
+unfolding restT
+quiet-ended u x s e = rw e (go (abortedIn u) (both (pausing (u .stand)) (u .rear)))
+  where
+    go : (a b : Bool) → reportEnded (pick a Aborted (pick b Rearbitrated Going)) x s ≡ x
+    go true b = unfold reportEnded in refl
+    go false true = unfold reportEnded in refl
+    go false false = unfold reportEnded in refl
+
+-- 0x03 is not 0x0B
+other-address : (a : ℕ) → eqb a command ≡ true → eqb a interruptReset ≡ false
+other-address a e = rw (eqb-true a command e)
+
+module _ (c : Controller) (o : Observer) (s : Same c o) (a v : ℕ) where
+  abbrev u : Tally
+  u = askedT (o .tally) a v
+
+  abbrev x : Service
+  x = serviceAsked (c .core .service) a v
+
+  stops : stopped x ≡ restT u
+  stops =
+      let g = asked-good (o .tally) a v (s .joined .good) in
+      ap stopped (asked-same c (o .tally) (s .joined) a v) ∙ stopped-is u (g .errors) (g .setting)
+
+  asked-ends : restT u ≡ endT (o .tally) u
+  asked-ends = go (isAway (o .tally .stand)) refl
+    where
+      go : (b : Bool) → isAway (o .tally .stand) ≡ b → restT u ≡ endT (o .tally) u
+      go true e = off-service (o .tally) u e
+      go false e = on-service (o .tally) u (asked-stays (o .tally) a v ∙ e)
+
+  byte-map : byteWritten c a v .memory ≡ endedMap (o .tally) u (writtenMap (c .memory) a v)
+  unfolding byteWritten
+  byte-map =
+      let n : ℕ = c .core .service .channel in
+      let k : keptByte (c .memory) a v ≡ writtenMap (c .memory) a v = unfold keptByte writtenMap writeOnly in refl in
+      ap (λ (y : Ending). memoryEnded y (keptByte (c .memory) a v) n) (stops ∙ asked-ends) ∙ ap (λ (m : List ℕ). memoryEnded (endT (o .tally) u) m n) k
+      ∙ ended-map (o .tally) u (writtenMap (c .memory) a v) n (λ b. agrees c o s .counts b .channel) (λ b. away-unended (o .tally) u (away-asked (o .tally) a v b) b (s .joined .good .errors))
+
+  written-report : coreWritten (c .core) a v .report ≡ pick (eqb a interruptReset) (withFlags (c .core .report) (cleared (c .core .report .flags) v)) (c .core .report)
+  unfolding coreWritten
+  written-report = go (eqb a command) refl
+    where
+      go : (b : Bool) → eqb a command ≡ b → pick b (modeCommanded (c .core) v) (pick (eqb a interruptReset) (flagsCleared (c .core) v) (c .core)) .report
+          ≡ pick (eqb a interruptReset) (withFlags (c .core .report) (cleared (c .core .report .flags) v)) (c .core .report)
+      go true e = mode-report (c .core) v ∙ rw (other-address a e)
+      go false e = by (eqb a interruptReset)
+        where
+          by : (y : Bool) → pick y (flagsCleared (c .core) v) (c .core) .report ≡ pick y (withFlags (c .core .report) (cleared (c .core .report .flags) v)) (c .core .report)
+          by true = unfold flagsCleared in refl
+          by false = refl
+
+  byte-report : byteWritten c a v .core .report ≡ pick (eqb a interruptReset) (withFlags (c .core .report) (cleared (c .core .report .flags) v)) (c .core .report)
+  unfolding byteWritten stoppedCore
+  byte-report =
+      let k : Core = coreWritten (c .core) a v in
+      let g = asked-good (o .tally) a v (s .joined .good) in
+      idle-report (withService (withReport k (reportEnded (stopped x) (k .report) x)) (settled (stopped x) x))
+      ∙ ap (λ (y : Ending). reportEnded y (k .report) x) stops ∙ quiet-ended u (k .report) x (unfold exhaustedIn in le-ltb (u .setting) (u .errors) (g .errors)) ∙ written-report
+
+  abbrev was-before : Report
+  was-before = c .core .report
+
+  abbrev left-report : Bool → Report
+  left-report b = pick b (withFlags (c .core .report) (cleared (c .core .report .flags) v)) (c .core .report)
+
+  bit-of : (f : Flags → Bool) (k : ℕ) → ((g : Flags) → f (cleared g v) ≡ unless (f g) (hasBit v k)) → (b : Bool) → f (left-report b .flags) ≡ pick (both b (hasBit v k)) false (f (was-before .flags))
+  bit-of f k h true = h (was-before .flags) ∙ unfold unless in refl
+  bit-of f k h false = refl
+
+module _ (c : Controller) (o : Observer) (s : Same c o) (a value : ℕ) where
+  abbrev byte : ℕ
+  byte = value % 256
+
+  slept-address : sleeps a byte ≡ true → eqb a interruptReset ≡ false
+  unfolding sleeps
+  slept-address e = other-address a (both-true (eqb a command) (asksSleep byte) e .0)
+
+  -- a bit after a reset, after SLEEP and after any other write
+  flag-wrote : (f : Flags → Bool) (k : ℕ) (z : Bool) (raises : ℕ → Bool) → f (resetReport .flags) ≡ z → ((g : Flags) → f (cleared g byte) ≡ unless (f g) (hasBit byte k))
+      → f (hostWritten c a byte .core .report .flags) ≡ flagO z k raises (f (c .core .report .flags)) o (Write a value)
+  unfolding hostWritten flagO
+  flag-wrote f k z raises h q = go (resets a byte) (sleeps a byte) refl
+    where
+      go : (x y : Bool) → sleeps a byte ≡ y → f (pick x (resetAll c) (pick y (record { memory = c .memory; core = slept (c .core) }) (byteWritten c a byte)) .core .report .flags)
+          ≡ pick x z (pick (both (eqb a interruptReset) (hasBit byte k)) false (f (c .core .report .flags)))
+      go true y e = unfold resetAll resetCore in h
+      go false true e = unfold slept in rw (slept-address e)
+      go false false e = ap (λ (y : Report). f (y .flags)) (byte-report c o s a byte) ∙ bit-of c o s a byte f k q (eqb a interruptReset)
+
+  -- a register that a write leaves
+  left-wrote : {B : Type 0} (f : Report → B) (z : B) → f resetReport ≡ z → ((y : Report) (g : Flags) → f (withFlags y g) ≡ f y)
+      → f (hostWritten c a byte .core .report) ≡ pick (resets a byte) z (f (c .core .report))
+  unfolding hostWritten
+  left-wrote f z h q = go (resets a byte) (sleeps a byte)
+    where
+      go : (x y : Bool) → f (pick x (resetAll c) (pick y (record { memory = c .memory; core = slept (c .core) }) (byteWritten c a byte)) .core .report) ≡ pick x z (f (c .core .report))
+      go true y = unfold resetAll resetCore in h
+      go false true = unfold slept in refl
+      go false false = ap f (byte-report c o s a byte) ∙ left f (eqb a interruptReset) (withFlags (c .core .report) (cleared (c .core .report .flags) byte)) (c .core .report) (f (c .core .report)) (q _ _) refl
+
+  map-wrote : hostWritten c a byte .memory ≡ memoryO c o (Write a value)
+  unfolding hostWritten memoryO
+  map-wrote = go (resets a byte) (sleeps a byte)
+    where
+      go : (x y : Bool) → pick x (resetAll c) (pick y (record { memory = c .memory; core = slept (c .core) }) (byteWritten c a byte)) .memory
+          ≡ pick x (resetMemory (c .memory)) (pick y (c .memory) (endedMap (o .tally) (askedT (o .tally) a byte) (writtenMap (c .memory) a byte)))
+      go true y = unfold resetAll in refl
+      go false true = refl
+      go false false = byte-map c o s a byte
+
+  wrote-leaves : Leaves c o (Write a value) (hostWritten c a byte)
+  unfolding sendingO messageO errorO zeroRetries resetReport cleared
+  wrote-leaves =
+      record {
+        memory = map-wrote;
+        sending = left-wrote (λ x. x .sending) zeroRetries refl (λ x y. refl);
+        message = left-wrote (λ x. x .message) zeroRetries refl (λ x y. refl);
+        error = left-wrote (λ x. x .error) 0 refl (λ x y. refl);
+        rst = flag-wrote (λ x. x .rst) 7 true (λ levels. false) refl (λ x. refl);
+        te = flag-wrote (λ x. x .te) 4 false (λ levels. exhaustedIn (judgedIn c o levels)) refl (λ x. refl);
+        tok = flag-wrote (λ x. x .tok) 3 false (λ levels. sentAll (o .tally) (judgedIn c o levels)) refl (λ x. refl);
+        re = flag-wrote (λ x. x .re) 2 false (λ levels. isSpoiled (deliveryIn c o levels)) refl (λ x. refl);
+        rok = flag-wrote (λ x. x .rok) 1 false (λ levels. both (isStored (deliveryIn c o levels)) (rak o)) refl (λ x. refl);
+        rnok = flag-wrote (λ x. x .rnok) 0 false (λ levels. both (isStored (deliveryIn c o levels)) (not (rak o))) refl (λ x. refl);
+      }
+
+-- ---- every event
+
+module _ (c : Controller) (o : Observer) (e : Event) (value : TxD c o e) where
+  settles-taken : (d : Controller) → next c e ≡ d → accepted c e ≡ true → Leaves c o e d → Settles c o e
+  settles-taken d n y h =
+      record {
+        value = value;
+        memory = rw (n, y) (h .memory);
+        sending = rw (n, y) (h .sending);
+        message = rw (n, y) (h .message);
+        error = rw (n, y) (h .error);
+        rst = rw (n, y) (h .rst);
+        te = rw (n, y) (h .te);
+        tok = rw (n, y) (h .tok);
+        re = rw (n, y) (h .re);
+        rok = rw (n, y) (h .rok);
+        rnok = rw (n, y) (h .rnok);
+      }
+
+  settles-refused : next c e ≡ c → accepted c e ≡ false → Settles c o e
+  settles-refused n y =
+      record {
+        value = value;
+        memory = rw (n, y);
+        sending = rw (n, y);
+        message = rw (n, y);
+        error = rw (n, y);
+        rst = rw (n, y);
+        te = rw (n, y);
+        tok = rw (n, y);
+        re = rw (n, y);
+        rok = rw (n, y);
+        rnok = rw (n, y);
+      }
+
+no-value : (c : Controller) (o : Observer) (e : Event) → accepted c e ≡ false → TxD c o e
+no-value c o Reset y = tt
+no-value c o (Write a v) y = tt
+no-value c o (Read a) y = tt
+no-value c o (Slot l) y = λ h. absurd (false≢true (sym y ∙ h))
+
+module _ (c : Controller) (o : Observer) (s : Same c o) (f : Fine c) where
+  slot-value : (l : ℕ) (d : Controller) → step c (Slot l) ≡ answered d → TxD c o (Slot l)
+  slot-value l d h y =
+      let n : next c (Slot l) ≡ d = unfold answered in accepted-next c (o .tally) (Slot l) (transmitted (getD (d .memory) lineControl 0) (drives (d .core))) d h in
+      let e : step c (Slot l) .value ≡ transmitted (getD (d .memory) lineControl 0) (drives (d .core)) = ap (λ (x : Answer). x .value) h ∙ unfold answered accept in refl in
+      let q : drives (next c (Slot l) .core) ≡ levelO (nextO c o (Slot l)) = agrees (next c (Slot l)) (nextO c o (Slot l)) (same-next c o s f (Slot l) (step-of c (Slot l))) .level in
+      e ∙ ap (λ (x : Controller). transmitted (getD (x .memory) lineControl 0) (drives (x .core))) (sym n) ∙ ap (transmitted (getD (next c (Slot l) .memory) lineControl 0)) q
+
+  rest-value : (l : ℕ) → isActive (c .core .activity .mode) ≡ false → step c (Slot l) ≡ restedSlot c → TxD c o (Slot l)
+  rest-value l a h y =
+      let n : next c (Slot l) ≡ c = unfold restedSlot in accepted-next c (o .tally) (Slot l) (transmitted (getD (c .memory) lineControl 0) 1) c h in
+      let e : step c (Slot l) .value ≡ transmitted (getD (c .memory) lineControl 0) 1 = ap (λ (x : Answer). x .value) h ∙ unfold restedSlot accept in refl in
+      let m : nextO c o (Slot l) ≡ o = rested-observer l a h in
+      let q : levelO (nextO c o (Slot l)) ≡ 1 = ap levelO m ∙ quiet-level (sym (active-is c o s f) ∙ a) in
+      e ∙ ap (λ (x : Controller). transmitted (getD (x .memory) lineControl 0) 1) (sym n) ∙ ap (transmitted (getD (next c (Slot l) .memory) lineControl 0)) (sym q)
+    where
+      quiet-level : isActive (o .activity .mode) ≡ false → levelO o ≡ 1
+      quiet-level b = unfold levelO in rw b
+
+      rested-observer : (l : ℕ) → isActive (c .core .activity .mode) ≡ false → step c (Slot l) ≡ restedSlot c → nextO c o (Slot l) ≡ o
+      rested-observer l a h =
+          let k : ℕ = transmitted (getD (c .memory) lineControl 0) 1 in
+          let i : step c (Slot l) ≡ accept k c = h ∙ unfold restedSlot in refl in
+          taken c o s f (Slot l) k c i ∙ rested-by c o s f l (sym (active-is c o s f) ∙ a)
+
+  went-settles : (l : ℕ) → isActive (c .core .activity .mode) ≡ true → step c (Slot l) ≡ answered (activeSlot c l) → Settles c o (Slot l)
+  unfolding activeSlot
+  went-settles l a h =
+      let d : Controller = sampledSlot c (sampleOf c l) in
+      let k : ℕ = transmitted (getD (d .memory) lineControl 0) (drives (d .core)) in
+      let i : step c (Slot l) ≡ accept k d = h ∙ unfold answered in refl in
+      let b : isActive (o .activity .mode) ≡ true = sym (active-is c o s f) ∙ a in
+      let n : next c (Slot l) ≡ d = accepted-next c (o .tally) (Slot l) k d i in
+      settles-taken c o (Slot l) (slot-value l d h) d n (accepted-so c (o .tally) (Slot l) k d i)
+      (slot-leaves c o s l b (taken c o s f (Slot l) k d i ∙ followed-by c o s f l d b n))
+
+  rested-settles : (l : ℕ) → isActive (c .core .activity .mode) ≡ false → step c (Slot l) ≡ restedSlot c → Settles c o (Slot l)
+  rested-settles l a h =
+      let k : ℕ = transmitted (getD (c .memory) lineControl 0) 1 in
+      let i : step c (Slot l) ≡ accept k c = h ∙ unfold restedSlot in refl in
+      settles-taken c o (Slot l) (rest-value l a h) c (accepted-next c (o .tally) (Slot l) k c i) (accepted-so c (o .tally) (Slot l) k c i) (rest-leaves c o l (sym (active-is c o s f) ∙ a))
+
+  settles : (e : Event) → Step c e → Settles c o e
+  settles e (refusal n h) = let y = refused-not c (o .tally) e n h in settles-refused c o e (no-value c o e y) (refused-next c (o .tally) e n h) y
+  settles Reset (reset h) = settles-taken c o Reset tt (resetAll c) (accepted-next c (o .tally) Reset 0 (resetAll c) h) (accepted-so c (o .tally) Reset 0 (resetAll c) h) (reset-leaves c o)
+  settles (Write a v) (wrote h) =
+      let d : Controller = hostWritten c a (v % 256) in
+      settles-taken c o (Write a v) tt d (accepted-next c (o .tally) (Write a v) 0 d h) (accepted-so c (o .tally) (Write a v) 0 d h) (wrote-leaves c o s a v)
+  settles (Read a) (gave value h) = settles-taken c o (Read a) tt c (accepted-next c (o .tally) (Read a) value c h) (accepted-so c (o .tally) (Read a) value c h) (read-leaves c o a)
+  settles (Slot l) (went a h) = went-settles l a h
+  settles (Slot l) (rested a h) = rested-settles l a h
+
+from : (c : Controller) (o : Observer) → Same c o → Fine c → (es : List Event) → SettledOver c o es
+from c o s f [] = tt
+from c o s f (e ∷ es) = (settles c o s f e (step-of c e), from (next c e) (nextO c o e) (same-next c o s f e (step-of c e)) (fine-next c e f) es)
+
+-- every list of events from a fresh controller
+pub settled-over : (es : List Event) → SettledOver fresh atReset es
+settled-over es = from fresh atReset same-fresh fine-fresh es
