@@ -4,7 +4,7 @@ use mathlib.Core.Path.{_≡_, refl, sym, _∙_}
 use native.Mathlib.Omega.{arith}
 use lib.ListN.{length, drop, length-set}
 use lib.Seq.{sets}
-use Rattle.listing.proofs.Puts.{put-next, put-end}
+use Rattle.line.proofs.Room.{put-next, put-end}
 use Rattle.player.proofs.lay.Statement.{statement}
 use Rattle.player.proofs.lay.Tie as tie
 

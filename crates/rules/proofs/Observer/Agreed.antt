@@ -33,7 +33,7 @@ use Rattle.rules.proofs.Roles.{role-other, heard-nobody, heard-receiver
 use Rattle.rules.proofs.Steps.{Step, refusal, reset, wrote, gave, went, rested, step-of, refused-next, refused-not, accepted-next, accepted-so, accepted-tally}
 use Rattle.rules.proofs.Sending.Beside as beside
 use Rattle.rules.proofs.Sending.Beside.{afterSlot, nextT}
-use Rattle.rules.proofs.Sending.Join.{countersOf, made, serviceIn, serviceOf, open-same, arbitrated-same, due-same, judge-driving, drivenIn, isBetweenStand}
+use Rattle.rules.proofs.Sending.Join.{countersOf, made, serviceIn, serviceOf, open-same, arbitrated-same, due-same, made-driving, drivenIn, isBetweenStand}
 use Rattle.rules.proofs.Sending.Follow.{follows-activity, follows-line, follows-reception}
 use Rattle.rules.proofs.Sending.Bound as bound
 use Rattle.rules.proofs.Sending.Demand3.{Joined, joined-fresh, joined-next, driven-is, level-is, sampled-service, settled-asked}
@@ -179,7 +179,7 @@ module _ (k : Core) (o : Observer) (s : SameCore k o) (v : ℕ) where
   own-in stage at d b e q =
       let drives : drivesFrame (k .service .effort .progress) ≡ true = ap (λ (x : Service). drivesFrame (x .effort .progress)) e ∙ (unfold made drivesFrame atStage in b) in
       heard-sender k (judge (k .service .effort) v) v drives ∙ ap (λ (x : Service). hearOwn (judge (x .effort) v)) e
-      ∙ ap hearOwn (judge-driving (o .tally) stage at v b) ∙ own-heard (o .tally .frame) at v ∙ rw q
+      ∙ ap hearOwn (made-driving (o .tally) stage at v b) ∙ own-heard (o .tally .frame) at v ∙ rw q
 
   hears-in : (x : Stand) (d : ℕ) → k .service ≡ serviceIn x (o .tally) → (isAway x ≡ false → isBetweenStand x ≡ false → d ≡ drivenIn x (o .tally))
       → heard k (judge (k .service .effort) v) v ≡ hearsIn x o (longestOf k) d v

@@ -18,7 +18,7 @@ use Rattle.rules.specs.Statements.Tally as tally
 use Rattle.rules.specs.Statements.Tally.{Stand, away, between, opening, inside, Tally, goes, contended, failed, sent, verdict, spentT, judgedAs, countedIn, countedT, isAway}
 use Rattle.rules.specs.Statements.Settled.{sentAll, exhaustedIn, pausing, abortedIn, endedMap, retriesT}
 use Rattle.rules.proofs.Judged.{Judged, went, lost, broke, done, slot-judged}
-use Rattle.rules.proofs.Sending.Join.{countersOf, made, serviceIn, serviceOf, kind, kind-same, stopped-made, gone-on, was-lost, has-failed, spent-slot, small, judge-driving, last-level, drivenIn, isBetweenStand}
+use Rattle.rules.proofs.Sending.Join.{countersOf, made, serviceIn, serviceOf, kind, kind-same, stopped-made, gone-on, was-lost, has-failed, spent-slot, small, made-driving, last-level, drivenIn, isBetweenStand}
 use Rattle.rules.specs.declared.Coded.{Coded}
 use Rattle.rules.specs.declared.Stage.{Stage}
 use Rattle.rules.specs.declared.Stage.the-variants.{Waiting, Opening, Sending}
@@ -157,7 +157,7 @@ module _ (t : Tally) (serving : isAway (t .stand) ≡ false) (few : t .errors �
 in-attempt : (t : Tally) → isAway (t .stand) ≡ false → t .errors ≤ t .setting → t .setting ≤ 15 → (stage : Stage) (k start : ℕ) (levels : List ℕ) (v : ℕ) → isDriving stage ≡ true → k + 1 ≡ start + length levels
     → Tells t (judgedAs (verdict (t .frame) k (levelAt (coded (t .frame)) k) v) t start levels) (judge (made t stage k .effort) v) (serviceJudged (judge (made t stage k .effort) v) (made t stage k))
 in-attempt t s g h stage k start levels v b e =
-    rw (judge-driving t stage k v b, ← (kind-same (t .frame) k v)) (tells-judged t s g h (slot-judged (coded (t .frame)) k v) stage k start levels e)
+    rw (made-driving t stage k v b, ← (kind-same (t .frame) k v)) (tells-judged t s g h (slot-judged (coded (t .frame)) k v) stage k start levels e)
 
 unjudged-tells : (t : Tally) (s : Service) → s ≡ serviceOf t → t .errors ≤ t .setting → t .setting ≤ 15 → Tells t t Unjudged s
 unfolding endingOf reportJudged
