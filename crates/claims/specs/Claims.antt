@@ -5,7 +5,7 @@
 --   codec: `encoded`, `encodedRoom` (crates/encoder); `decoded`, `decodedRoom` of `reading` (crates/decoder)
 --   session: `headerAt`, `eventAt`, `endAt` (crates/session), of which `session` is made; its numbers: `decode` (crates/leb128)
 --   listing: `played`, `playedRoom` of `listingOf` (crates/player); for C: crates/frapmast
--- Nor the first lines of a listing (crates/bench_record), and the numbers and sessions that 01 runs (Cases in crates/leb128 and crates/session).
+-- Nor the numbers and sessions that 01 runs (Cases in crates/leb128 and crates/session).
 --
 -- Legend. The notation is antt's; `rt doc` prints the path of the toolchain's guide, and guides/primer.md beside it has the language.
 --   (x : A) → B        for every x of A, B holds        A → B: if A, then B        A → ⊥: A does not hold
@@ -43,8 +43,9 @@ use Rattle.rules.specs.Definitions.Hearing.{fits}
 use Rattle.rules.specs.Statements.Valid.{low}
 use Rattle.rules.specs.Definitions.State.{inRange, isAsleep}
 use Rattle.rules.specs.Definitions.Run.{fresh, step, next, after}
-use Rattle.rules.specs.Statements.Tally.{none}
+use Rattle.rules.specs.Statements.Observer.{atReset}
 use Rattle.rules.specs.Statements.Sending.{SendingOver}
+use Rattle.rules.specs.Statements.Settled.{SettledOver}
 use Rattle.rules.specs.Statements.Receiving.{noLog, received, ReceivingOver}
 use Rattle.rules.specs.Statements.OwnFrames.{OwnFrames}
 use Rattle.rules.specs.Statements.Interrupts as interrupt
@@ -62,6 +63,7 @@ use Rattle.session.specs.Claims as sessions
 use Rattle.session.specs.declared.Fault.{Fault}
 use Rattle.session.specs.declared.End.the-variants.{Bad}
 use Rattle.session.specs.declared.Event as session-event
+use Rattle.bench_record.specs.Claims.{FirstLines, LinesStand}
 use Rattle.claims.specs.Agree as agree
 use Rattle.claims.specs.Decoded.{Decoded}
 
@@ -95,6 +97,9 @@ pub record Sessions : Type 0 where
   -- "session events before a bad one stand": they are the same whatever stands from the fault's place on
   pub stand : (most : ℕ) (s : List ℕ) → Bytes s → (c : ℕ) (r : Events) → session most s ≡ Counted c r → (f : Fault) (p : ℕ) → r .end ≡ Bad f p
       → (t : List ℕ) → sessions.Begins c (r .events) (session most (take p s ++ t))
+  -- so do their lines: each event that is read has its line, with the answer of the step rule, whatever follows (crates/bench_record/specs/Claims.antt)
+  pub first-lines : FirstLines
+  pub lines-stand : LinesStand
   -- and the fault, unless it is a cut, whatever follows the input
   pub settled : (most : ℕ) (s t : List ℕ) → Bytes s → Settled (session most s) → session most (s ++ t) ≡ session most s
   -- a good session is the bytes of its events, and the bytes of at most `most` events are a good session
@@ -176,18 +181,30 @@ pub record Receiving : Type 0 where
   -- "Reset values": a host reads each of them after a reset, by pin or GRES
   pub resets : rules.Resets
 
+-- "After each event the memory map, the driven level and the interrupts are those the controller's data sheet and document 01 define"
+pub record Events : Type 0 where
+  -- for every list of events, from what stood before, the event and the observer (Settles in crates/rules/specs/Statements/Settled.antt). Of each event:
+  --   value: an accepted slot answers the level of the next slot after the transmit inversion: the fixed frame's in an attempt, dominant where an acknowledge is owed,
+  --     else recessive
+  --   memory: every byte of the map: a write changes its own byte, a reset the registers' bytes, a slot what is delivered and the marks of a service that ends
+  --   sending, message, error: the registers 0x05, 0x06, 0x07        rst, te, tok, re, rok, rnok: each bit of 0x09: raised, kept or cleared
+  pub settled : (es : List Event) → SettledOver fresh atReset es
+
 -- ---- demand 3
 
 pub record Sending : Type 0 where
   -- "each event gets the controller that the last one left"
   pub chained : (c : Controller) (es : List Event) (e : Event) → after c (es ++ (e ∷ [])) ≡ step (after c es) e .next
   -- for every list of events: one fixed frame of which each attempt drives an opening part, at most R + 1 errors, TE exactly at R + 1, at most
-  -- (C + R + 1) × (60 + 10n) slots, by the tally's own count (SendingOver and Claim in crates/rules/specs/Statements/Sending.antt, the tally in Tally.antt). Of each event:
+  -- (C + R + 1) × (60 + 10n) slots, by the tally's own count (SendingOver and Claim in crates/rules/specs/Statements/Sending.antt, the tally in Tally.antt, the observer
+  -- that keeps it in Observer.antt). Of each event:
+  --   agrees: mode, free line, frame under way, service, counts and driven level of the controller are those of the observer, which reads nothing of the controller but its
+  --     memory map and the levels driven and sampled
   --   fits: the frame of the service under way is a frame no longer than the controller sends
   --   driven: in an accepted slot of an attempt, the levels driven in it, that of this slot included, begin the frame's slots, or those from the eleventh on where it joined
   --   errors: at most R + 1 attempts of the service have ended in error        slots: at most (C + R + 1) × (60 + 10n) slots were spent in its attempts
   --   raised: where R + 1 errors are counted, TE is 1 after the event        only: where the event turns TE from 0 to 1, R + 1 errors are counted
-  pub kept : (es : List Event) → SendingOver fresh none es
+  pub kept : (es : List Event) → SendingOver fresh atReset es
   -- closed runs with their figures for C, errors and slots: sent, exhausted, lost twice, joined, aborted
   pub runs : rules.Runs
 

@@ -14,7 +14,7 @@ use Rattle.rules.specs.Statements.Valid.{Valid}
 use Rattle.rules.specs.Definitions.State.{isActive}
 use Rattle.rules.specs.Definitions.Slots.{sampleOf}
 use Rattle.rules.specs.Definitions.Run.{next}
-use Rattle.rules.specs.Statements.Sending.{accepted}
+use Rattle.rules.specs.Statements.Observer.{accepted}
 use Rattle.rules.specs.Statements.Receiving.{Log, logNext, received, taker, role, hears}
 use Rattle.rules.specs.declared.Hearing.the-variants.{Fault, Good}
 use Rattle.rules.specs.declared.Role.the-variants.{Receiver}

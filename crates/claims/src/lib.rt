@@ -32,6 +32,11 @@ pub fn receiving_claims()
     ensures { λ _. ⌜ claims.Receiving ⌝ }
 {}
 
+// Holds what every event leaves, for every list of events from a fresh controller; it does nothing.
+pub fn event_claims()
+    ensures { λ _. ⌜ claims.Events ⌝ }
+{}
+
 // Holds demand 3, for every list of events from a fresh controller; it does nothing.
 pub fn sending_claims()
     ensures { λ _. ⌜ claims.Sending ⌝ }

@@ -275,6 +275,11 @@ pub fn sending_claims()
     ensures { λ _. ⌜ claims.Sending ⌝ }
 {}
 
+// Holds what every event leaves, for every list of events from a fresh controller; it does nothing.
+pub fn event_claims()
+    ensures { λ _. ⌜ claims.Events ⌝ }
+{}
+
 // Holds what is delivered and acknowledged, for every list of events from a fresh controller; it does nothing.
 pub fn receiving_claims()
     ensures { λ _. ⌜ claims.Receiving ⌝ }

@@ -4,6 +4,7 @@ use lib.ListN.{length}
 use Rattle.leb128.proofs.RoundTrip as leb128
 use Rattle.session.specs.Reading.{mostEvents}
 use Rattle.session.proofs.Sessions as sessions
+use Rattle.bench_record.proofs.FirstLines.{first-events, before-a-fault}
 use Rattle.claims.specs.Claims.{Sessions}
 use Rattle.claims.proofs.session_claims.Statement.{statement}
 use Rattle.claims.proofs.session_claims.Tie as tie
@@ -13,6 +14,8 @@ values =
     record {
       answered = sessions.total;
       stand = sessions.prefix;
+      first-lines = first-events;
+      lines-stand = before-a-fault;
       settled = sessions.stands;
       sound = sessions.sound;
       complete = sessions.complete;

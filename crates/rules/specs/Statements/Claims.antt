@@ -1,4 +1,4 @@
--- What is claimed of the controller's rules: refusals, reset values, matching, sending, receiving, closed runs.
+-- What is claimed of the controller's rules: refusals, reset values, matching, sending, what every event leaves, receiving, closed runs.
 use Prim.Native.Nat.{ℕ, _≤_, _<_}
 use mathlib.Core.Bool.{Bool, true, false}
 use mathlib.Core.List.{List, [], _∷_, _++_}
@@ -46,9 +46,12 @@ pub record Matching : Type 0 where
   -- "Lowest channel number wins": the one that is found passes, and none below it does
   pub wins : (passes : ℕ → Bool) (left from c : ℕ) → lowest passes left from ≡ Lowest c → (passes c ≡ true) × ((k : ℕ) → from ≤ k → k < c → passes k ≡ false)
 
--- demand 3, and what every event leaves, for every list of events from a fresh controller
+-- demand 3, for every list of events from a fresh controller
 pub record Sending : Type 0 where
   pub kept : (es : List Event) → SendingOver fresh atReset es
+
+-- what every event leaves, for every list of events from a fresh controller
+pub record Events : Type 0 where
   pub settled : (es : List Event) → SettledOver fresh atReset es
 
 -- what is delivered and acknowledged, for every list of events from a fresh controller
