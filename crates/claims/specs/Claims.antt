@@ -182,7 +182,7 @@ pub record Receiving : Type 0 where
   pub resets : rules.Resets
 
 -- "After each event the memory map, the driven level and the interrupts are those the controller's data sheet and document 01 define"
-pub record Events : Type 0 where
+pub record EveryEvent : Type 0 where
   -- for every list of events, from what stood before, the event and the observer (Settles in crates/rules/specs/Statements/Settled.antt). Of each event:
   --   value: an accepted slot answers the level of the next slot after the transmit inversion: the fixed frame's in an attempt, dominant where an acknowledge is owed,
   --     else recessive

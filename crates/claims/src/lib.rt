@@ -34,7 +34,7 @@ pub fn receiving_claims()
 
 // Holds what every event leaves, for every list of events from a fresh controller; it does nothing.
 pub fn event_claims()
-    ensures { λ _. ⌜ claims.Events ⌝ }
+    ensures { λ _. ⌜ claims.EveryEvent ⌝ }
 {}
 
 // Holds demand 3, for every list of events from a fresh controller; it does nothing.

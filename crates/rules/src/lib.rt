@@ -277,7 +277,7 @@ pub fn sending_claims()
 
 // Holds what every event leaves, for every list of events from a fresh controller; it does nothing.
 pub fn event_claims()
-    ensures { λ _. ⌜ claims.Events ⌝ }
+    ensures { λ _. ⌜ claims.EveryEvent ⌝ }
 {}
 
 // Holds what is delivered and acknowledged, for every list of events from a fresh controller; it does nothing.

@@ -51,7 +51,7 @@ pub record Sending : Type 0 where
   pub kept : (es : List Event) → SendingOver fresh atReset es
 
 -- what every event leaves, for every list of events from a fresh controller
-pub record Events : Type 0 where
+pub record EveryEvent : Type 0 where
   pub settled : (es : List Event) → SettledOver fresh atReset es
 
 -- what is delivered and acknowledged, for every list of events from a fresh controller
