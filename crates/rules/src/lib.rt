@@ -297,5 +297,6 @@ pub fn interrupt_claims()
 
 // Holds the closed runs; it does nothing.
 pub fn run_claims()
-    ensures { λ _. ⌜ claims.Runs ⌝ }
+    ensures runs { λ _. ⌜ claims.Runs ⌝ }
+    ensures courses { λ _. ⌜ claims.Courses ⌝ }
 {}

@@ -1,6 +1,6 @@
-use Rattle.rules.proofs.ClosedRuns.{runs}
+use Rattle.rules.proofs.ClosedRuns.{runs, courses}
 use Rattle.rules.proofs.run_claims.Statement.{statement}
 use Rattle.rules.proofs.run_claims.Tie as tie
 
 pub run-claims-spec : {M : Type 1} → statement M
-run-claims-spec = tie.close (tie.spec (λ c. runs))
+run-claims-spec = tie.close (tie.spec (λ c. (runs, courses)))

@@ -3,7 +3,7 @@ use Prim.Native.Nat.{ℕ, _≤_, _<_}
 use mathlib.Core.Bool.{Bool, true, false}
 use mathlib.Core.List.{List, [], _∷_, _++_}
 use mathlib.Core.Path.{_≡_}
-use lib.ListN.{getD, length, take}
+use lib.ListN.{getD, length, take, drop}
 use Rattle.line.specs.Frame.{slots}
 use Rattle.rules.specs.Definitions.Registers.{resetValues}
 use Rattle.rules.specs.Definitions.Channels.{matches, lowest}
@@ -16,12 +16,12 @@ use Rattle.rules.specs.Statements.Observer.{atReset}
 use Rattle.rules.specs.Statements.Sending.{SendingOver}
 use Rattle.rules.specs.Statements.Settled.{SettledOver}
 use Rattle.rules.specs.Statements.Receiving.{noLog, ReceivingOver}
-use Rattle.rules.specs.Statements.Runs.{Counts, seenOver, setUp, ones, levels, sent, echoed, overdriven, ran, listening, asking, Stored}
+use Rattle.rules.specs.Statements.Runs.{Counts, seenOver, setUp, ones, levels, sent, echoed, overdriven, ran, listening, asking, Stored, sees, pin, again, sendingData, failures, overdrivenAt}
 use Rattle.rules.specs.declared.Choice.the-variants.{Lowest}
 use Rattle.rules.specs.declared.Mode.the-variants.{Active}
 use Rattle.rules.specs.declared.Controller.{Controller}
 use Rattle.rules.specs.declared.Event.{Event}
-use Rattle.rules.specs.declared.Event.the-variants.{Slot, Write}
+use Rattle.rules.specs.declared.Event.the-variants.{Slot, Write, Read}
 
 -- a refused event changes nothing and answers zero; no state that a run reaches is refused with 6
 pub record Refusals : Type 0 where
@@ -80,3 +80,37 @@ pub record Runs : Type 0 where
   pub joined : drives (ran fresh (setUp ++ (Write 0x01 0x22 ∷ (ones 12 ++ levels (take 10 (slots sent))))) .core) ≡ 1
   pub aborted : getD (ran fresh (setUp ++ (ones 12 ++ (Slot 0 ∷ Slot 0 ∷ Slot 0 ∷ Write 0x13 0x0C ∷ Slot 1 ∷ []))) .memory) 0x13 0 ≡ 0x0E
   pub refused : (step (ran fresh setUp) (Slot 9) .next) .core .activity .mode ≡ Active
+
+-- closed runs, by what a host reads after them and by the level at the pin
+pub record Courses : Type 0 where
+  -- R = 15: fifteen errors leave TE 0, the sixteenth raises it, with CHER and CHTx; 0x05, 0x06, 0x09, and channel 0's status
+  pub fifteen-errors : sees (setUp ++ (Write 0x01 0xF3 ∷ failures 15)) (0x05 ∷ 0x06 ∷ 0x09 ∷ 0x13 ∷ []) ≡ 0xF0 ∷ 0x00 ∷ 0x80 ∷ 0x08 ∷ []
+  pub sixteen-errors : sees (setUp ++ (Write 0x01 0xF3 ∷ failures 16)) (0x05 ∷ 0x06 ∷ 0x09 ∷ 0x13 ∷ []) ≡ 0x01 ∷ 0xF0 ∷ 0x90 ∷ 0x0E ∷ []
+  -- RAK 1, data across 0xFF: the last slot, and none before it, raises TOK, with CHTx
+  pub not-sent-yet : sees (sendingData ++ (ones 12 ++ levels (take 79 (slots asking)))) (0x09 ∷ 0x13 ∷ []) ≡ 0x80 ∷ 0x18 ∷ []
+  pub sent-with-data : sees (sendingData ++ (ones 12 ++ levels (slots asking))) (0x06 ∷ 0x07 ∷ 0x09 ∷ 0x13 ∷ []) ≡ 0x00 ∷ 0x00 ∷ 0x88 ∷ 0x1A ∷ []
+  -- a loss in a first half is no error; after a loss in data the frame's next level, a dominant one, is not driven
+  pub lost-in-a-first-half : sees (setUp ++ (ones 12 ++ overdrivenAt sent 13)) (0x04 ∷ 0x05 ∷ 0x07 ∷ []) ≡ 0x03 ∷ 0x00 ∷ 0x00 ∷ []
+  pub lost-in-data : pin (sendingData ++ (ones 12 ++ overdrivenAt asking 30)) ≡ 1
+  -- two good frames in a row, the second from the slot after the first: both stored, and the controller is still active
+  pub two-in-a-row : sees (listening ++ (ones 12 ++ (levels (slots asking) ++ (Write 0x1B 0x18 ∷ levels (slots again))))) (0x04 ∷ 0x1B ∷ 0xFF ∷ 0x80 ∷ 0x81 ∷ []) ≡ 0x00 ∷ 0x19 ∷ 0x82 ∷ 0x12 ∷ 0x34 ∷ []
+  -- after a good frame the next attempt starts in the fifth slot, not sooner
+  pub three-are-too-few : pin (setUp ++ (ones 12 ++ (levels (slots sent) ++ ones 3))) ≡ 1
+  pub four-are-enough : pin (setUp ++ (ones 12 ++ (levels (slots sent) ++ ones 4))) ≡ 0
+  -- after a fault a start is taken behind twelve recessive slots, not behind eleven; 0x07 keeps the fault
+  pub eleven-are-too-few : sees (listening ++ (ones 12 ++ (Slot 0 ∷ Slot 1 ∷ (ones 11 ++ levels (slots asking))))) (0x07 ∷ 0x1B ∷ 0xFF ∷ []) ≡ 0x02 ∷ 0x18 ∷ 0x00 ∷ []
+  pub twelve-are-enough : sees (listening ++ (ones 12 ++ (Slot 0 ∷ Slot 1 ∷ (ones 12 ++ levels (slots asking))))) (0x07 ∷ 0x1B ∷ 0xFF ∷ []) ≡ 0x02 ∷ 0x19 ∷ 0x82 ∷ []
+  -- a fault once the frame is matched: CHER and RE, and the channel's other bytes stay
+  pub spoilt : sees (listening ++ (ones 12 ++ overdrivenAt asking 34)) (0x07 ∷ 0x09 ∷ 0x18 ∷ 0x19 ∷ 0x1A ∷ 0x1B ∷ 0x1E ∷ 0x1F ∷ []) ≡ 0x02 ∷ 0x84 ∷ 0xF2 ∷ 0x39 ∷ 0x7F ∷ 0x1C ∷ 0xFF ∷ 0xF0 ∷ []
+  -- what the host does while a frame is under way: a write, a read and ACTI leave it; IDLE drops it
+  pub host-meanwhile : sees (listening ++ (ones 12 ++ (levels (take 40 (slots asking)) ++ (Write 0x90 0x55 ∷ Read 0x04 ∷ Write 0x03 0x10 ∷ levels (drop 40 (slots asking)))))) (0x09 ∷ 0x1B ∷ 0x80 ∷ 0x90 ∷ []) ≡ 0x82 ∷ 0x19 ∷ 0xA5 ∷ 0x55 ∷ []
+  pub idle-meanwhile : sees (listening ++ (ones 12 ++ (levels (take 40 (slots asking)) ++ (Write 0x03 0x20 ∷ levels (drop 40 (slots asking)))))) (0x04 ∷ 0x09 ∷ 0x1B ∷ []) ≡ 0x20 ∷ 0x80 ∷ 0x18 ∷ []
+  -- no channel is ready: no service, and no status bit is cleared
+  pub nothing-to-send : sees (Write 0x03 0x10 ∷ ones 14) (0x04 ∷ 0x09 ∷ []) ≡ 0x00 ∷ 0x80 ∷ []
+  -- the level at the pin, and after the transmit inversion
+  pub pin-starts : pin (setUp ++ ones 12) ≡ 0
+  pub pin-inverted : pin (Write 0x00 0x02 ∷ (setUp ++ ones 12)) ≡ 1
+  -- a write to 0x0B clears; a write changes its own byte; a reset leaves channels and mailbox
+  pub cleared : sees (Write 0x0B 0x80 ∷ []) (0x09 ∷ []) ≡ 0x00 ∷ []
+  pub own-byte : sees (Write 0x0A 0x1F ∷ []) (0x0A ∷ 0x90 ∷ []) ≡ 0x1F ∷ 0x00 ∷ []
+  pub reset-leaves : sees (Write 0x28 0x52 ∷ Write 0x90 0x55 ∷ Write 0x01 0xF3 ∷ Write 0x03 0x80 ∷ []) (0x01 ∷ 0x0A ∷ 0x28 ∷ 0x90 ∷ []) ≡ 0x02 ∷ 0x80 ∷ 0x52 ∷ 0x55 ∷ []

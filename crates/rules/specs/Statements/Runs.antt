@@ -1,5 +1,6 @@
 -- Closed runs: what they are made of.
 --   seenOver == the tally once the sample of a run's last event is judged        ran == the controller after a run
+--   sees, pin == what a host reads after a run, and the level at the pin
 --   setUp, listening == what the host writes first        ones, levels == slots
 use Rattle.line.specs.Bits as lbits
 use Rattle.line.specs.LineCode as llinecode
@@ -22,18 +23,19 @@ use Rattle.rules.specs.Definitions.Host as rhost
 use Rattle.rules.specs.Definitions.Run as rrun
 use Rattle.rules.specs.Statements.Tally as rtally
 use Rattle.rules.specs.Statements.Observer as robserver
-use Prim.Native.Nat.{ℕ}
+use Prim.Native.Nat.{ℕ, zero, suc}
 use mathlib.Core.Bool.{true, false}
 use mathlib.Core.List.{List, [], _∷_, _++_}
 use mathlib.Core.Path.{_≡_}
 use lib.ListN.{getD, replicate, take}
 use Rattle.line.specs.Frame.{Frame, slots}
-use Rattle.rules.specs.Definitions.Run.{fresh, next}
+use Rattle.rules.specs.Definitions.Run.{fresh, step, next}
 use Rattle.rules.specs.Statements.Tally.{Tally, none}
 use Rattle.rules.specs.Statements.Observer.{Observer, seenO, nextO}
 use Rattle.rules.specs.declared.Controller.{Controller}
+use Rattle.rules.specs.declared.Answer.{Answer}
 use Rattle.rules.specs.declared.Event.{Event}
-use Rattle.rules.specs.declared.Event.the-variants.{Write, Slot}
+use Rattle.rules.specs.declared.Event.the-variants.{Write, Read, Slot}
 
 -- it unfolds every definition of the rules, so that a run computes
 unfoldable pub seenOver : Controller → Observer → List Event → Event → Tally
@@ -67,11 +69,22 @@ overdriven = levels (take 10 (slots sent)) ++ (Slot 0 ∷ Slot 0 ∷ Slot 0 ∷ 
 abbrev pub Counts : Tally → ℕ → ℕ → ℕ → Type 0
 Counts t lost errors slots = (t .lost ≡ lost) × (t .errors ≡ errors) × (t .slots ≡ slots)
 
--- it unfolds every definition of the rules, so that a run computes
-unfoldable pub ran : Controller → List Event → Controller
+-- the answer to the last event of a list; it unfolds every definition of the rules, so that a run computes
+unfoldable pub lastAnswer : Answer → List Event → Answer
 unfolding lbits.bits lbits.bitsValueFrom lbits.bitsValue llinecode.lineCode llinecode.pattern lcheck.polynomial lcheck.checkBit lcheck.remainder lcheck.allOnes lcheck.check lframe.byteBits lframe.covered lframe.carried lframe.start lframe.endOfData lframe.acknowledgeSlots lframe.endOfFrame lframe.slots lframe.size llayout.partOf llayout.inFive llayout.halfOf llayout.bitOf llayout.codedLevel llayout.levelIn llayout.levelOf rregisters.readOnly rregisters.writeOnly rregisters.reserved rregisters.rowAt rregisters.resetValues rregisters.resetValue rregisters.reservedRows rregisters.reservedBits rregisters.fixedBits rregisters.invertsReceive rregisters.invertsTransmit rregisters.retrySetting rregisters.autonomous rregisters.selectedInput rregisters.asksReset rregisters.asksSleep rregisters.asksIdle rregisters.asksActivation rregisters.asksRearbitration rregisters.resetReport rregisters.bit rregisters.lineStatus rregisters.retriesByte rregisters.interruptStatus rregisters.unless rregisters.cleared rregisters.asserted rregisters.inputLevel rregisters.inverted rregisters.sampled rregisters.transmitted rchannels.extension rchannels.acknowledgeAsked rchannels.reads rchannels.remote rchannels.twelve rchannels.base rchannels.channelAt rchannels.lengthOf rchannels.cher rchannels.withCher rchannels.withChtx rchannels.withChrx rchannels.drak rchannels.noBuffer rchannels.ownBuffer rchannels.linkedBuffer rchannels.bufferOf rchannels.statusBits rchannels.receiveMessage rchannels.requestDetection rchannels.transmitMessage rchannels.deferredReply rchannels.matches rchannels.listens rchannels.takes rchannels.nobody rchannels.winnerOf rchannels.lowest rchannels.lowestListening rchannels.won rchannels.winnerFor rchannels.asksToSend rchannels.sendable rchannels.ready rchannels.lowestReady rmailbox.mailboxAt rmailbox.statusByte rmailbox.laidFrom rmailbox.stored rmailbox.mailboxBytes rmailbox.dataIn rmailbox.sentFrame rmailbox.codedBytes rmailbox.coded rmailbox.retagged rmailbox.markedCher rmailbox.markedChtx rmailbox.markedChrx rmailbox.rowsWritten rmailbox.resetMemory rreception.unsettled rreception.afterGood rreception.free rreception.takesStart rreception.counted rreception.atPlace rreception.quiet rreception.isUnderWay rreception.underWay rreception.isBody rreception.inBody rreception.behind rreception.startEnded rreception.commandEnded rreception.moved rreception.entered rreception.bitTaken rreception.withNibble rreception.moreNibbles rreception.bitsLaid rreception.nibbleTaken rreception.dataEnded rreception.begun rreception.followStart rreception.followBody rreception.followAcknowledge rreception.followEnd rreception.followIn rreception.followed rreception.winnerTaken rreception.dataCount rhearing.lineAfter rhearing.receptionAfter rhearing.whole rhearing.replyRequest rhearing.checkReceived rhearing.checkDue rhearing.hearEndOfData rhearing.hearSecondHalf rhearing.hearBody rhearing.hearStart rhearing.fits rhearing.acknowledges rhearing.acknowledgeWrong rhearing.hearAcknowledge rhearing.hearEnd rhearing.hearIn rhearing.hearFrame rhearing.hearQuiet rhearing.acknowledgeLevel rhearing.receiverIn rhearing.receiverLevel rdelivery.delivered rdelivery.deliveryTo rdelivery.deliveryOf rdelivery.memoryStored rdelivery.memoryDelivered rdelivery.receiveError rdelivery.reportStored rdelivery.reportHeard rdelivery.reportDelivered rattempt.moreSlots rattempt.moreAttempts rattempt.noCounts rattempt.atStage rattempt.isServing rattempt.inService rattempt.isBetween rattempt.betweenAttempts rattempt.isWaiting rattempt.waits rattempt.isDriving rattempt.drivesFrame rattempt.sentSlots rattempt.levelAt rattempt.due rattempt.openHalf rattempt.arbitrated rattempt.inCheck rattempt.inAcknowledge rattempt.differenceIn rattempt.difference rattempt.judgeSlot rattempt.judge rattempt.slotSpent rattempt.lostSpent rattempt.errorSpent rattempt.advance rattempt.exhausted rservice.roleOf rservice.resting rservice.stopped rservice.endingOf rservice.settled rservice.memoryEnded rservice.retriesOf rservice.reportSending rservice.reportJudged rservice.reportEnded rservice.chosen rservice.choiceOf rservice.choose rservice.opened rservice.started rservice.abortAsked rservice.rearAsked rservice.aborts rservice.hearOwn rstate.isActive rstate.isAsleep rstate.isIdle rstate.inMode rstate.serving rstate.ranges rstate.within rstate.inRange rstate.resetCore rstate.idled rstate.idleDue rstate.slept rstate.idleAsked rstate.activated rslots.heardAs rslots.heard rslots.delivers rslots.serviceJudged rslots.ending rslots.receptionJudged rslots.reportAfter rslots.memoryJudged rslots.coreJudged rslots.chooses rslots.choiceMade rslots.startMade rslots.followsOn rslots.drivesAs rslots.drives rslots.sampleOf rslots.judgedSlot rslots.sampledSlot rslots.activeSlot ranswers.number ranswers.refusedBy ranswers.valueOf ranswers.answerOf ranswers.refusedLent ranswers.acceptedLent ranswers.answerLent rhost.resetAll rhost.resets rhost.sleeps rhost.modeCommanded rhost.rearCommanded rhost.keptByte rhost.flagsCleared rhost.coreWritten rhost.serviceAsked rhost.stoppedCore rhost.byteWritten rhost.hostWritten rhost.lineStatusOf rhost.statusRead rhost.byteRead rhost.accessRefusals rhost.writeRefusals rhost.readRefusals rhost.interruptLine rrun.fresh rrun.refuse rrun.accept rrun.unlessRefused rrun.pinReset rrun.hostWrite rrun.hostRead rrun.answered rrun.restedSlot rrun.slot rrun.step rrun.next rrun.after
-ran c [] = c
-ran c (x ∷ xs) = ran (next c x) xs
+lastAnswer a [] = a
+lastAnswer a (x ∷ xs) = lastAnswer (step (a .next) x) xs
+
+unfoldable pub ran : Controller → List Event → Controller
+ran c es = lastAnswer (record { refused = 0; value = 0; next = c }) es .next
+
+-- from a fresh controller: what a host then reads at some addresses, and the level that the last slot answered
+unfoldable pub sees : List Event → List ℕ → List ℕ
+sees es [] = []
+sees es (a ∷ addresses) = lastAnswer (record { refused = 0; value = 0; next = ran fresh es }) (Read a ∷ []) .value ∷ sees es addresses
+
+unfoldable pub pin : List Event → ℕ
+pin es = lastAnswer (record { refused = 0; value = 0; next = fresh }) es .value
 
 -- channel 1 listens: tag 0xF23, mask all ones, pointer 0x7F, M_L 3; active
 unfoldable pub listening : List Event
@@ -84,3 +97,21 @@ asking = record { identifier = 0xF23; command = 12; bytes = 0xA5 ∷ 0x3C ∷ []
 -- behind the last slot the status byte stands at 0xFF, the data from 0x80 on, and CHRx is set
 abbrev pub Stored : List ℕ → Type 0
 Stored m = (getD m 0xFF 0 ≡ 0x82) × (getD m 0x80 0 ≡ 0xA5) × (getD m 0x81 0 ≡ 0x3C) × (getD m 0x82 0 ≡ 0) × (getD m 0x1B 0 ≡ 0x19)
+
+-- the same identifier, other data
+unfoldable pub again : Frame
+again = record { identifier = 0xF23; command = 12; bytes = 0x12 ∷ 0x34 ∷ []; acknowledge = true }
+
+-- channel 0 sends the frame `asking`: data at 0xFF and 0x80, RAK 1; R = 2, MT 1; active
+unfoldable pub sendingData : List Event
+sendingData =
+    Write 0x10 0xF2 ∷ Write 0x11 0x3C ∷ Write 0x12 0x7E ∷ Write 0x13 0x18 ∷ Write 0xFF 0xA5 ∷ Write 0x80 0x3C ∷ Write 0x01 0x23 ∷ Write 0x03 0x10 ∷ []
+
+-- n attempts on a free line, each failing in its first slot
+unfoldable pub failures : ℕ → List Event
+failures zero = []
+failures (suc n) = ones 12 ++ (Slot 1 ∷ failures n)
+
+-- the first k slots of a frame as they are driven, and then a dominant one
+unfoldable pub overdrivenAt : Frame → ℕ → List Event
+overdrivenAt f k = levels (take k (slots f)) ++ (Slot 0 ∷ [])
