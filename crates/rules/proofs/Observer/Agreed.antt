@@ -21,15 +21,15 @@ use Rattle.rules.specs.Definitions.Hearing.{lineAfter, hearFrame, hearQu
 use Rattle.rules.specs.Definitions.Attempt.{atStage, inService, isServing, drivesFrame, isDriving, levelAt, due, inCheck, inAcknowledge, differenceIn, difference, judgeSlot, judge}
 use Rattle.rules.specs.Definitions.Service.{roleOf, resting, stopped, settled, reportEnded, hearOwn}
 use Rattle.rules.specs.Definitions.State.{isActive, inMode, serving, resetCore, idled, idleDue, slept, idleAsked, activated}
-use Rattle.rules.specs.Definitions.Slots.{heard, receptionJudged, memoryJudged, coreJudged, followsOn, drivesAs, drives, sampleOf, judgedSlot, sampledSlot, activeSlot}
+use Rattle.rules.specs.Definitions.Slots.{roleIn, heard, receptionJudged, memoryJudged, coreJudged, followsOn, drivesAs, drives, sampleOf, judgedSlot, sampledSlot, activeSlot}
 use Rattle.rules.specs.Definitions.Host.{resetAll, resets, sleeps, modeCommanded, flagsCleared, coreWritten, serviceAsked, stoppedCore, byteWritten, hostWritten}
 use Rattle.rules.specs.Definitions.Run.{fresh, accept, answered, restedSlot, step, next}
 use Rattle.rules.specs.Statements.Tally.{Stand, away, between, opening, inside, Tally, none, goes, contended, failed, sent, dueLevel, openHalfT, arbitratedT, verdict, countedT, endedIn, endedT, chooseIn, chooseT, startIn, startT, askedIn, askedT, isAway}
 use Rattle.rules.specs.Statements.Observer as observer
 use Rattle.rules.specs.Statements.Observer.{Past, recessive, freeO, startsO, anew, Observer, withActivityO, withLineO, withFrameO, withTallyO, atReset, codeT, hearsOwn, hearsOther, hearsIn, hearsO, lineO, sampledO, idleO, goesOnO, activatedO, idleAskedO, commandedO, writtenO, accepted, nextO}
-use Rattle.rules.specs.Statements.Sending.{levelIn, levelO, Counted, Agrees}
+use Rattle.rules.specs.Statements.Sending.{levelIn, levelO, roleAs, Counted, Agrees}
 use Rattle.rules.proofs.Logic.{left}
-use Rattle.rules.proofs.Roles.{role-other, heard-nobody, heard-receiver, heard-sender}
+use Rattle.rules.proofs.Roles.{role-sender, role-other, heard-nobody, heard-receiver, heard-sender}
 use Rattle.rules.proofs.Steps.{Step, refusal, reset, wrote, gave, went, rested, step-of, refused-next, refused-not, accepted-next, accepted-so, accepted-tally}
 use Rattle.rules.proofs.Sending.Beside as beside
 use Rattle.rules.proofs.Sending.Beside.{afterSlot, nextT}
@@ -552,6 +552,16 @@ module _ (c : Controller) (o : Observer) (s : Same c o) where
       go true u = unfold drivesAs in refl
       go false u = unfold drivesAs in sym (quiet-level (c .core .reception) u)
 
+  role-in : (x : Stand) → c .core .service ≡ serviceIn x (o .tally) → roleIn (c .core) ≡ roleAs x (o .frame .place)
+  unfolding roleAs serviceIn
+  role-in x e = rw (← (s .core .frame)) (go x e)
+    where
+      go : (x : Stand) → c .core .service ≡ serviceIn x (o .tally) → roleIn (c .core) ≡ roleAs x (c .core .reception .place)
+      go away e = role-other (c .core .service .effort .progress) (c .core .reception .place) (rw e (unfold resting atStage drivesFrame isDriving in refl))
+      go between e = role-other (c .core .service .effort .progress) (c .core .reception .place) (rw e (unfold made atStage drivesFrame isDriving in refl))
+      go (opening start) e = role-sender (c .core .service .effort .progress) (c .core .reception .place) (rw e (unfold made atStage drivesFrame isDriving in refl))
+      go (inside start levels) e = role-sender (c .core .service .effort .progress) (c .core .reception .place) (rw e (unfold made atStage drivesFrame isDriving in refl))
+
   level-in : (x : Stand) → o .tally .stand ≡ x → c .core .service ≡ serviceIn x (o .tally) → drives (c .core) ≡ levelIn x o
   unfolding levelIn serviceIn
   level-in away e h = other-level (rw h (unfold resting atStage drivesFrame isDriving in refl))
@@ -584,6 +594,7 @@ module _ (c : Controller) (o : Observer) (s : Same c o) where
         free-line = line-free (c .core .line) (o .line) (s .core .line);
         start-taken = line-starts (c .core .line) (o .line) (s .core .line);
         frame = s .core .frame;
+        role = role-in (o .tally .stand) e;
         service = serving-is (c .core .service) (o .tally) (s .joined .service);
         counts = counted-in (o .tally .stand) (c .core .service) (o .tally) e;
         level = level-now (isActive (o .activity .mode)) refl;

@@ -27,7 +27,7 @@ use Rattle.rules.specs.Definitions.Run.{fresh, accept, answered, restedS
 use Rattle.rules.specs.Statements.Tally.{Stand, away, between, opening, inside, Tally, none, withStand, withAbort, withRear, countedIn, countedT, endedT, chosenT, choiceT, chooseIn, chooseT, startIn, startT, askedIn, askedT, asks, isAway}
 use Rattle.rules.specs.Statements.Observer.{freeO, Observer, atReset, hearsO, sampledO, idleO, goesOnO, accepted, nextO}
 use Rattle.rules.specs.Statements.Sending.{levelO, Agrees}
-use Rattle.rules.specs.Statements.Settled.{sentAll, exhaustedIn, pausing, abortedIn, endedMap, retriesT, fitting, heardDelivery, deliveredIn, deliveredMap, isStored, isSpoiled, judgedIn, hearingIn, deliveryIn, chosenIn, writtenMap, memoryO, zeroRetries, sendingO, messageO, codeHeard, overflows, errorO, flagO, rak, TxD, Settles, SettledOver}
+use Rattle.rules.specs.Statements.Settled.{sentAll, exhaustedIn, pausing, abortedIn, endedMap, retriesT, fitting, heardDelivery, deliveredIn, deliveredMap, isStored, isSpoiled, judgedIn, hearingIn, deliveryIn, chosenIn, writtenMap, memoryO, zeroRetries, sendingO, messageO, codeHeard, overflows, errorO, flagO, rak, TxD, Hears, Settles, SettledOver}
 use Rattle.rules.proofs.Logic.{left, both-true}
 use Rattle.rules.proofs.Roles.{role-sender, role-other}
 use Rattle.rules.proofs.Steps.{Step, refusal, reset, wrote, gave, went, rested, step-of, refused-next, refused-not, accepted-next, accepted-so}
@@ -716,11 +716,12 @@ module _ (c : Controller) (o : Observer) (s : Same c o) (a value : ℕ) where
 
 -- ---- every event
 
-module _ (c : Controller) (o : Observer) (e : Event) (value : TxD c o e) where
+module _ (c : Controller) (o : Observer) (e : Event) (value : TxD c o e) (hearing : Hears c o e) where
   settles-taken : (d : Controller) → next c e ≡ d → accepted c e ≡ true → Leaves c o e d → Settles c o e
   settles-taken d n y h =
       record {
         value = value;
+        hearing = hearing;
         memory = rw (n, y) (h .memory);
         sending = rw (n, y) (h .sending);
         message = rw (n, y) (h .message);
@@ -737,6 +738,7 @@ module _ (c : Controller) (o : Observer) (e : Event) (value : TxD c o e) where
   settles-refused n y =
       record {
         value = value;
+        hearing = hearing;
         memory = rw (n, y);
         sending = rw (n, y);
         message = rw (n, y);
@@ -754,6 +756,12 @@ no-value c o Reset y = tt
 no-value c o (Write a v) y = tt
 no-value c o (Read a) y = tt
 no-value c o (Slot l) y = λ h. absurd (false≢true (sym y ∙ h))
+
+heard-so : (c : Controller) (o : Observer) → Same c o → (e : Event) → Hears c o e
+heard-so c o s Reset = tt
+heard-so c o s (Write a v) = tt
+heard-so c o s (Read a) = tt
+heard-so c o s (Slot l) = hears-same c o s (sampleOf c l) (sample-small c l)
 
 module _ (c : Controller) (o : Observer) (s : Same c o) (f : Fine c) where
   slot-value : (l : ℕ) (d : Controller) → step c (Slot l) ≡ answered d → TxD c o (Slot l)
@@ -788,22 +796,22 @@ module _ (c : Controller) (o : Observer) (s : Same c o) (f : Fine c) where
       let i : step c (Slot l) ≡ accept k d = h ∙ unfold answered in refl in
       let b : isActive (o .activity .mode) ≡ true = sym (active-is c o s f) ∙ a in
       let n : next c (Slot l) ≡ d = accepted-next c (o .tally) (Slot l) k d i in
-      settles-taken c o (Slot l) (slot-value l d h) d n (accepted-so c (o .tally) (Slot l) k d i)
+      settles-taken c o (Slot l) (slot-value l d h) (heard-so c o s (Slot l)) d n (accepted-so c (o .tally) (Slot l) k d i)
       (slot-leaves c o s l b (taken c o s f (Slot l) k d i ∙ followed-by c o s f l d b n))
 
   rested-settles : (l : ℕ) → isActive (c .core .activity .mode) ≡ false → step c (Slot l) ≡ restedSlot c → Settles c o (Slot l)
   rested-settles l a h =
       let k : ℕ = transmitted (getD (c .memory) lineControl 0) 1 in
       let i : step c (Slot l) ≡ accept k c = h ∙ unfold restedSlot in refl in
-      settles-taken c o (Slot l) (rest-value l a h) c (accepted-next c (o .tally) (Slot l) k c i) (accepted-so c (o .tally) (Slot l) k c i) (rest-leaves c o l (sym (active-is c o s f) ∙ a))
+      settles-taken c o (Slot l) (rest-value l a h) (heard-so c o s (Slot l)) c (accepted-next c (o .tally) (Slot l) k c i) (accepted-so c (o .tally) (Slot l) k c i) (rest-leaves c o l (sym (active-is c o s f) ∙ a))
 
   settles : (e : Event) → Step c e → Settles c o e
-  settles e (refusal n h) = let y = refused-not c (o .tally) e n h in settles-refused c o e (no-value c o e y) (refused-next c (o .tally) e n h) y
-  settles Reset (reset h) = settles-taken c o Reset tt (resetAll c) (accepted-next c (o .tally) Reset 0 (resetAll c) h) (accepted-so c (o .tally) Reset 0 (resetAll c) h) (reset-leaves c o)
+  settles e (refusal n h) = let y = refused-not c (o .tally) e n h in settles-refused c o e (no-value c o e y) (heard-so c o s e) (refused-next c (o .tally) e n h) y
+  settles Reset (reset h) = settles-taken c o Reset tt tt (resetAll c) (accepted-next c (o .tally) Reset 0 (resetAll c) h) (accepted-so c (o .tally) Reset 0 (resetAll c) h) (reset-leaves c o)
   settles (Write a v) (wrote h) =
       let d : Controller = hostWritten c a (v % 256) in
-      settles-taken c o (Write a v) tt d (accepted-next c (o .tally) (Write a v) 0 d h) (accepted-so c (o .tally) (Write a v) 0 d h) (wrote-leaves c o s a v)
-  settles (Read a) (gave value h) = settles-taken c o (Read a) tt c (accepted-next c (o .tally) (Read a) value c h) (accepted-so c (o .tally) (Read a) value c h) (read-leaves c o a)
+      settles-taken c o (Write a v) tt tt d (accepted-next c (o .tally) (Write a v) 0 d h) (accepted-so c (o .tally) (Write a v) 0 d h) (wrote-leaves c o s a v)
+  settles (Read a) (gave value h) = settles-taken c o (Read a) tt tt c (accepted-next c (o .tally) (Read a) value c h) (accepted-so c (o .tally) (Read a) value c h) (read-leaves c o a)
   settles (Slot l) (went a h) = went-settles l a h
   settles (Slot l) (rested a h) = rested-settles l a h
 

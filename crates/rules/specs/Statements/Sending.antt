@@ -9,15 +9,18 @@ use lib.ListN.{length, getD, drop}
 use Rattle.line.specs.Bits.{pick}
 use Rattle.line.specs.Frame.{Frame, Fits, slots, size}
 use Rattle.rules.specs.Definitions.Longest.{longestOf}
-use Rattle.rules.specs.Definitions.Reception.{free, takesStart}
+use Rattle.rules.specs.Definitions.Reception.{free, takesStart, underWay}
 use Rattle.rules.specs.Definitions.Hearing.{receiverLevel}
 use Rattle.rules.specs.Definitions.Attempt.{largest}
 use Rattle.rules.specs.Definitions.State.{isActive, serving}
-use Rattle.rules.specs.Definitions.Slots.{drives}
+use Rattle.rules.specs.Definitions.Slots.{roleIn, drives}
 use Rattle.rules.specs.Definitions.Run.{next}
 use Rattle.rules.specs.Statements.Tally.{Stand, away, between, opening, inside, Tally, isAway}
 use Rattle.rules.specs.Statements.Observer.{freeO, startsO, Observer, accepted, seenO, nextO}
+use Rattle.rules.specs.declared.Place.{Place}
 use Rattle.rules.specs.declared.Service.{Service}
+use Rattle.rules.specs.declared.Role.{Role}
+use Rattle.rules.specs.declared.Role.the-variants.{Nobody, Receiver, Sender}
 use Rattle.rules.specs.declared.Controller.{Controller}
 use Rattle.rules.specs.declared.Event.{Event}
 use Rattle.rules.specs.declared.Event.the-variants.{Reset, Write, Read, Slot}
@@ -35,6 +38,13 @@ levelIn (inside start levels) o = getD (slots (o .tally .frame)) (start + length
 unfoldable pub levelO : Observer → ℕ
 levelO o = pick (isActive (o .activity .mode)) (levelIn (o .tally .stand) o) 1
 
+-- what the model is in the frame under way
+unfoldable pub roleAs : Stand → Place → Role
+roleAs away here = pick (underWay here) Receiver Nobody
+roleAs between here = pick (underWay here) Receiver Nobody
+roleAs (opening start) here = Sender
+roleAs (inside start levels) here = Sender
+
 -- "only stored counts stop at their largest"
 pub record Counted (s : Service) (t : Tally) : Type 0 where
   pub channel : s .channel ≡ t .channel
@@ -48,6 +58,7 @@ pub record Agrees (c : Controller) (o : Observer) : Type 0 where
   pub free-line : free (c .core .line) ≡ freeO (o .line)
   pub start-taken : takesStart (c .core .line) ≡ startsO (o .line)
   pub frame : c .core .reception ≡ o .frame
+  pub role : roleIn (c .core) ≡ roleAs (o .tally .stand) (o .frame .place)
   pub service : serving (c .core .service) ≡ not (isAway (o .tally .stand))
   pub counts : isAway (o .tally .stand) ≡ false → Counted (c .core .service) (o .tally)
   pub level : drives (c .core) ≡ levelO o

@@ -16,8 +16,9 @@ use Rattle.rules.specs.Definitions.Channels.{acknowledgeAsked}
 use Rattle.rules.specs.Definitions.Mailbox.{markedCher, markedChtx, resetMemory}
 use Rattle.rules.specs.Definitions.Reception.{underWay, dataCount}
 use Rattle.rules.specs.Definitions.Delivery.{memoryStored}
+use Rattle.rules.specs.Definitions.Attempt.{judge}
 use Rattle.rules.specs.Definitions.State.{isActive}
-use Rattle.rules.specs.Definitions.Slots.{drives, sampleOf}
+use Rattle.rules.specs.Definitions.Slots.{heard, drives, sampleOf}
 use Rattle.rules.specs.Definitions.Host.{resets, sleeps}
 use Rattle.rules.specs.Definitions.Run.{step, next}
 use Rattle.rules.specs.Statements.Tally.{Stand, away, between, opening, inside, Tally, countedT, endedT, isAway, askedT}
@@ -212,9 +213,17 @@ TxD c o (Read address) = Unit {0}
 TxD c o (Slot levels) =
     accepted c (Slot levels) ≡ true → step c (Slot levels) .value ≡ transmitted (getD (next c (Slot levels) .memory) lineControl 0) (levelO (nextO c o (Slot levels)))
 
+-- what the sample is for the line and the frame under way, which Receiving.antt speaks of
+abbrev pub Hears : Controller → Observer → Event → Type 0
+Hears c o Reset = Unit {0}
+Hears c o (Write address value) = Unit {0}
+Hears c o (Read address) = Unit {0}
+Hears c o (Slot levels) = heard (c .core) (judge (c .core .service .effort) (sampleOf c levels)) (sampleOf c levels) ≡ hearingIn c o levels
+
 pub record Settles (c : Controller) (o : Observer) (e : Event) : Type 0 where
   -- "the event's answer and listing give TXD after" the transmit inversion, "idle and asleep too"
   pub value : TxD c o e
+  pub hearing : Hears c o e
   pub memory : Settled c e (c .memory) (memoryO c o e) (next c e .memory)
   pub sending : Settled c e (c .core .report .sending) (sendingO c o e) (next c e .core .report .sending)
   pub message : Settled c e (c .core .report .message) (messageO c o e) (next c e .core .report .message)
