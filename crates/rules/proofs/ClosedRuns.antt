@@ -188,6 +188,11 @@ pub idle-meanwhile : sees (listening ++ (ones 12 ++ (levels (take 40 (slots aski
 unfolding lastAnswer ran sees listening ones levels asking
 idle-meanwhile = refl
 
+-- a service that waits for a free line: TXG, not RXG
+pub waiting : sees (setUp ++ ones 3) (0x04 ∷ 0x05 ∷ []) ≡ 0x02 ∷ 0x00 ∷ []
+unfolding lastAnswer ran sees setUp ones
+waiting = refl
+
 -- no channel is ready: no service, and no status bit is cleared
 pub nothing-to-send : sees (Write 0x03 0x10 ∷ ones 14) (0x04 ∷ 0x09 ∷ []) ≡ 0x00 ∷ 0x80 ∷ []
 unfolding lastAnswer ran sees ones
@@ -232,6 +237,7 @@ courses =
       spoilt = spoilt;
       host-meanwhile = host-meanwhile;
       idle-meanwhile = idle-meanwhile;
+      waiting = waiting;
       nothing-to-send = nothing-to-send;
       pin-starts = pin-starts;
       pin-inverted = pin-inverted;

@@ -2,17 +2,17 @@
 --   Leaves == the bytes, registers and bits of controller d that event e leaves        settled == over every list of events
 use Prim.Native.Nat.{ℕ, _+_, _%_, _≤_, _<_}
 use mathlib.Core.Bool.{Bool, true, false, not, false≢true}
-use mathlib.Core.List.{List, [], _∷_}
+use mathlib.Core.List.{List, [], _∷_, _++_}
 use mathlib.Core.Path.{_≡_, refl, ap, _∙_, sym}
 use native.Mathlib.Omega.{arith}
-use borrow.Author.Tests.{le-ltb, eqb-true}
+use borrow.Author.Tests.{le-ltb, leb-true, eqb-true, eqb-false}
 use lib.Dec.{eqb, ltb, leb}
 use lib.ListN.{getD}
 use Rattle.line.specs.Bits.{pick}
 use Rattle.line.proofs.Laws.{picked, pick-same}
 use Rattle.rules.specs.Definitions.Setters.{withFlags, withReport, withService}
 use Rattle.rules.specs.Definitions.Longest.{longestOf}
-use Rattle.rules.specs.Definitions.Registers.{both, either, hasBit, lineControl, transmitControl, autonomous, command, interruptReset, asksSleep, asksRearbitration, writeOnly, BOV, unless, cleared, transmitted, resetReport}
+use Rattle.rules.specs.Definitions.Registers.{both, either, hasBit, lineControl, transmitControl, autonomous, command, lineStatusAt, transmissionStatus, lastMessageStatus, lastErrorStatus, interruptStatusAt, interruptReset, asksSleep, asksRearbitration, readOnly, writeOnly, lineStatus, retriesByte, interruptStatus, BOV, unless, cleared, transmitted, resetReport}
 use Rattle.rules.specs.Definitions.Mailbox.{markedCher, markedChtx, resetMemory}
 use Rattle.rules.specs.Definitions.Channels.{acknowledgeAsked, base, cher, lowestReady}
 use Rattle.rules.specs.Definitions.Reception.{underWay, startEnded, dataCount}
@@ -20,17 +20,18 @@ use Rattle.rules.specs.Definitions.Hearing.{fits}
 use Rattle.rules.specs.Definitions.Delivery.{delivered, deliveryTo, deliveryOf, memoryDelivered, receiveError, reportStored, reportHeard, reportDelivered}
 use Rattle.rules.specs.Definitions.Attempt.{atStage, inService, isServing, drivesFrame, isDriving, judge}
 use Rattle.rules.specs.Definitions.Service.{resting, stopped, settled, memoryEnded, retriesOf, reportSending, reportJudged, reportEnded, chosen, choiceOf, choose}
-use Rattle.rules.specs.Definitions.State.{isActive, serving, resetCore, idled, idleDue, slept}
+use Rattle.rules.specs.Definitions.State.{isActive, isAsleep, isIdle, serving, resetCore, idled, idleDue, slept}
 use Rattle.rules.specs.Definitions.Slots.{roleIn, heard, delivers, serviceJudged, ending, reportAfter, memoryJudged, coreJudged, chooses, choiceMade, startMade, followsOn, drives, sampleOf, judgedSlot, sampledSlot, activeSlot}
-use Rattle.rules.specs.Definitions.Host.{resetAll, resets, sleeps, modeCommanded, keptByte, flagsCleared, coreWritten, serviceAsked, stoppedCore, byteWritten, hostWritten}
-use Rattle.rules.specs.Definitions.Run.{fresh, accept, answered, restedSlot, step, next}
+use Rattle.rules.specs.Definitions.Host.{resetAll, resets, sleeps, modeCommanded, keptByte, flagsCleared, coreWritten, serviceAsked, stoppedCore, byteWritten, hostWritten, lineStatusOf, statusRead, byteRead, accessRefusals, readRefusals}
+use Rattle.rules.specs.Definitions.Run.{fresh, accept, hostRead, answered, restedSlot, step, next}
 use Rattle.rules.specs.Statements.Tally.{Stand, away, between, opening, inside, Tally, none, withStand, withAbort, withRear, countedIn, countedT, endedT, chosenT, choiceT, chooseIn, chooseT, startIn, startT, askedIn, askedT, asks, isAway}
 use Rattle.rules.specs.Statements.Observer.{freeO, Observer, atReset, hearsO, sampledO, idleO, goesOnO, accepted, nextO}
 use Rattle.rules.specs.Statements.Sending.{levelO, Agrees}
-use Rattle.rules.specs.Statements.Settled.{sentAll, exhaustedIn, pausing, abortedIn, endedMap, retriesT, fitting, heardDelivery, deliveredIn, deliveredMap, isStored, isSpoiled, judgedIn, hearingIn, deliveryIn, chosenIn, writtenMap, memoryO, zeroRetries, sendingO, messageO, codeHeard, overflows, errorO, flagO, rak, TxD, Hears, Settles, SettledOver}
+use Rattle.rules.specs.Statements.Settled.{sentAll, exhaustedIn, pausing, abortedIn, endedMap, retriesT, fitting, heardDelivery, deliveredIn, deliveredMap, isStored, isSpoiled, judgedIn, hearingIn, deliveryIn, chosenIn, writtenMap, memoryO, zeroRetries, sendingO, messageO, codeHeard, overflows, errorO, flagO, readO, rak, Answers, Hears, Settles, SettledOver}
 use Rattle.rules.proofs.Logic.{left, both-true}
 use Rattle.rules.proofs.Roles.{role-sender, role-other}
-use Rattle.rules.proofs.Steps.{Step, refusal, reset, wrote, gave, went, rested, step-of, refused-next, refused-not, accepted-next, accepted-so}
+use Rattle.rules.proofs.Steps as steps
+use Rattle.rules.proofs.Steps.{Call, refused, call-of, Step, refusal, reset, wrote, gave, went, rested, step-of, refused-next, refused-not, accepted-next, accepted-so}
 use Rattle.rules.proofs.Ranges.Limits.{Fine}
 use Rattle.rules.proofs.Ranges.Reach.{fine-fresh, fine-next}
 use Rattle.rules.proofs.Sending.Join.{made, serviceIn, serviceOf, chosen-is}
@@ -716,7 +717,7 @@ module _ (c : Controller) (o : Observer) (s : Same c o) (a value : ℕ) where
 
 -- ---- every event
 
-module _ (c : Controller) (o : Observer) (e : Event) (value : TxD c o e) (hearing : Hears c o e) where
+module _ (c : Controller) (o : Observer) (e : Event) (value : Answers c o e) (hearing : Hears c o e) where
   settles-taken : (d : Controller) → next c e ≡ d → accepted c e ≡ true → Leaves c o e d → Settles c o e
   settles-taken d n y h =
       record {
@@ -751,11 +752,55 @@ module _ (c : Controller) (o : Observer) (e : Event) (value : TxD c o e) (hearin
         rnok = rw (n, y);
       }
 
-no-value : (c : Controller) (o : Observer) (e : Event) → accepted c e ≡ false → TxD c o e
+no-value : (c : Controller) (o : Observer) (e : Event) → accepted c e ≡ false → Answers c o e
 no-value c o Reset y = tt
 no-value c o (Write a v) y = tt
-no-value c o (Read a) y = tt
+no-value c o (Read a) y = λ h. absurd (false≢true (sym y ∙ h))
 no-value c o (Slot l) y = λ h. absurd (false≢true (sym y ∙ h))
+
+-- ---- a host read
+
+status-read : (a : ℕ) → eqb a lineStatusAt ≡ false → eqb a transmissionStatus ≡ false → eqb a lastMessageStatus ≡ false → eqb a lastErrorStatus ≡ false → eqb a interruptStatusAt ≡ false → readOnly a ≡ false
+unfolding readOnly
+status-read a p q r t u = rw u (go (leb lineStatusAt a) refl (leb a lastErrorStatus) refl)
+  where
+    go : (x : Bool) → leb lineStatusAt a ≡ x → (y : Bool) → leb a lastErrorStatus ≡ y → either (both x y) false ≡ false
+    go true e true d =
+        absurd (let i = leb-true lineStatusAt a e in let k = leb-true a lastErrorStatus d in omega (arith, eqb-false a lineStatusAt p, eqb-false a transmissionStatus q, eqb-false a lastMessageStatus r, eqb-false a lastErrorStatus t))
+    go true e false d = refl
+    go false e y d = refl
+
+module _ (c : Controller) (o : Observer) (s : Same c o) (a : ℕ) where
+  line-status : lineStatusOf (c .core) ≡ lineStatus (isAsleep (o .activity .mode)) (isIdle (o .activity .mode)) (not (isAway (o .tally .stand))) (underWay (o .frame .place))
+  unfolding lineStatusOf
+  line-status = rw (serving-is (c .core .service) (o .tally) (s .joined .service), s .core .activity, s .core .frame)
+
+  abbrev Reads : Bool → Bool → Bool → Bool → Bool → Type 0
+  Reads p q r t u = byteRead c a
+      ≡ pick p (lineStatus (isAsleep (o .activity .mode)) (isIdle (o .activity .mode)) (not (isAway (o .tally .stand))) (underWay (o .frame .place)))
+      (pick q (retriesByte (c .core .report .sending)) (pick r (retriesByte (c .core .report .message)) (pick t (c .core .report .error) (pick u (interruptStatus (c .core .report .flags)) (getD (c .memory) (a % 256) 0)))))
+
+  reads : (p : Bool) → eqb a lineStatusAt ≡ p → (q : Bool) → eqb a transmissionStatus ≡ q → (r : Bool) → eqb a lastMessageStatus ≡ r → (t : Bool) → eqb a lastErrorStatus ≡ t
+      → (u : Bool) → eqb a interruptStatusAt ≡ u → Reads p q r t u
+  unfolding byteRead statusRead
+  reads true p q q′ r r′ t t′ u u′ = rw (eqb-true a lineStatusAt p) (unfold readOnly in line-status)
+  reads false p true q r r′ t t′ u u′ = rw (eqb-true a transmissionStatus q) (unfold readOnly in refl)
+  reads false p false q true r t t′ u u′ = rw (eqb-true a lastMessageStatus r) (unfold readOnly in refl)
+  reads false p false q false r true t u u′ = rw (eqb-true a lastErrorStatus t) (unfold readOnly in refl)
+  reads false p false q false r false t true u = rw (eqb-true a interruptStatusAt u) (unfold readOnly in refl)
+  reads false p false q false r false t false u = rw (status-read a p q r t u)
+
+  host-reads : byteRead c a ≡ readO c o a
+  unfolding readO
+  host-reads = reads (eqb a lineStatusAt) refl (eqb a transmissionStatus) refl (eqb a lastMessageStatus) refl (eqb a lastErrorStatus) refl (eqb a interruptStatusAt) refl
+
+read-called : (c : Controller) (a : ℕ) → Call c (accept (byteRead c a) c) (step c (Read a))
+unfolding step hostRead
+read-called c a = call-of c (accessRefusals (c .core) a ++ readRefusals a) (accept (byteRead c a) c)
+
+accepted-read : (c : Controller) (a : ℕ) → Call c (accept (byteRead c a) c) (step c (Read a)) → accepted c (Read a) ≡ true → step c (Read a) .value ≡ byteRead c a
+accepted-read c a (refused why h) y = absurd (false≢true (sym (refused-not c none (Read a) why h) ∙ y))
+accepted-read c a (steps.taken h) y = ap (λ (x : Answer). x .value) h ∙ unfold accept in refl
 
 heard-so : (c : Controller) (o : Observer) → Same c o → (e : Event) → Hears c o e
 heard-so c o s Reset = tt
@@ -764,14 +809,14 @@ heard-so c o s (Read a) = tt
 heard-so c o s (Slot l) = hears-same c o s (sampleOf c l) (sample-small c l)
 
 module _ (c : Controller) (o : Observer) (s : Same c o) (f : Fine c) where
-  slot-value : (l : ℕ) (d : Controller) → step c (Slot l) ≡ answered d → TxD c o (Slot l)
+  slot-value : (l : ℕ) (d : Controller) → step c (Slot l) ≡ answered d → Answers c o (Slot l)
   slot-value l d h y =
       let n : next c (Slot l) ≡ d = unfold answered in accepted-next c (o .tally) (Slot l) (transmitted (getD (d .memory) lineControl 0) (drives (d .core))) d h in
       let e : step c (Slot l) .value ≡ transmitted (getD (d .memory) lineControl 0) (drives (d .core)) = ap (λ (x : Answer). x .value) h ∙ unfold answered accept in refl in
       let q : drives (next c (Slot l) .core) ≡ levelO (nextO c o (Slot l)) = agrees (next c (Slot l)) (nextO c o (Slot l)) (same-next c o s f (Slot l) (step-of c (Slot l))) .level in
       e ∙ ap (λ (x : Controller). transmitted (getD (x .memory) lineControl 0) (drives (x .core))) (sym n) ∙ ap (transmitted (getD (next c (Slot l) .memory) lineControl 0)) q
 
-  rest-value : (l : ℕ) → isActive (c .core .activity .mode) ≡ false → step c (Slot l) ≡ restedSlot c → TxD c o (Slot l)
+  rest-value : (l : ℕ) → isActive (c .core .activity .mode) ≡ false → step c (Slot l) ≡ restedSlot c → Answers c o (Slot l)
   rest-value l a h y =
       let n : next c (Slot l) ≡ c = unfold restedSlot in accepted-next c (o .tally) (Slot l) (transmitted (getD (c .memory) lineControl 0) 1) c h in
       let e : step c (Slot l) .value ≡ transmitted (getD (c .memory) lineControl 0) 1 = ap (λ (x : Answer). x .value) h ∙ unfold restedSlot accept in refl in
@@ -787,6 +832,9 @@ module _ (c : Controller) (o : Observer) (s : Same c o) (f : Fine c) where
           let k : ℕ = transmitted (getD (c .memory) lineControl 0) 1 in
           let i : step c (Slot l) ≡ accept k c = h ∙ unfold restedSlot in refl in
           taken c o s f (Slot l) k c i ∙ rested-by c o s f l (sym (active-is c o s f) ∙ a)
+
+  read-value : (a : ℕ) → Answers c o (Read a)
+  read-value a y = accepted-read c a (read-called c a) y ∙ host-reads c o s a
 
   went-settles : (l : ℕ) → isActive (c .core .activity .mode) ≡ true → step c (Slot l) ≡ answered (activeSlot c l) → Settles c o (Slot l)
   unfolding activeSlot
@@ -811,7 +859,7 @@ module _ (c : Controller) (o : Observer) (s : Same c o) (f : Fine c) where
   settles (Write a v) (wrote h) =
       let d : Controller = hostWritten c a (v % 256) in
       settles-taken c o (Write a v) tt tt d (accepted-next c (o .tally) (Write a v) 0 d h) (accepted-so c (o .tally) (Write a v) 0 d h) (wrote-leaves c o s a v)
-  settles (Read a) (gave value h) = settles-taken c o (Read a) tt tt c (accepted-next c (o .tally) (Read a) value c h) (accepted-so c (o .tally) (Read a) value c h) (read-leaves c o a)
+  settles (Read a) (gave value h) = settles-taken c o (Read a) (read-value a) tt c (accepted-next c (o .tally) (Read a) value c h) (accepted-so c (o .tally) (Read a) value c h) (read-leaves c o a)
   settles (Slot l) (went a h) = went-settles l a h
   settles (Slot l) (rested a h) = rested-settles l a h
 

@@ -105,6 +105,8 @@ pub record Courses : Type 0 where
   -- what the host does while a frame is under way: a write, a read and ACTI leave it; IDLE drops it
   pub host-meanwhile : sees (listening ++ (ones 12 ++ (levels (take 40 (slots asking)) ++ (Write 0x90 0x55 ∷ Read 0x04 ∷ Write 0x03 0x10 ∷ levels (drop 40 (slots asking)))))) (0x09 ∷ 0x1B ∷ 0x80 ∷ 0x90 ∷ []) ≡ 0x82 ∷ 0x19 ∷ 0xA5 ∷ 0x55 ∷ []
   pub idle-meanwhile : sees (listening ++ (ones 12 ++ (levels (take 40 (slots asking)) ++ (Write 0x03 0x20 ∷ levels (drop 40 (slots asking)))))) (0x04 ∷ 0x09 ∷ 0x1B ∷ []) ≡ 0x20 ∷ 0x80 ∷ 0x18 ∷ []
+  -- a service that waits for a free line: TXG, not RXG
+  pub waiting : sees (setUp ++ ones 3) (0x04 ∷ 0x05 ∷ []) ≡ 0x02 ∷ 0x00 ∷ []
   -- no channel is ready: no service, and no status bit is cleared
   pub nothing-to-send : sees (Write 0x03 0x10 ∷ ones 14) (0x04 ∷ 0x09 ∷ []) ≡ 0x00 ∷ 0x80 ∷ []
   -- the level at the pin, and after the transmit inversion

@@ -1,7 +1,7 @@
 -- What every event leaves: each byte of the memory map, each register that the controller writes, each status bit, and a slot's answer, from what stood before, the
 -- event and the observer (01, Memory map, Receiving, Sending).
 --   sentAll, exhaustedIn, abortedIn == how a service ends        deliveredO == what another module's frame does
---   memoryO, sendingO, messageO, errorO, flagO == a byte or register after an event        Settles == the claim on an event
+--   memoryO, sendingO, messageO, errorO, flagO == a byte or register after an event        readO == what a host reads        Settles == the claim on an event
 --   SettledOver == the claim on a list of events, from a controller and an observer on
 use Prim.Native.Nat.{ℕ, _+_, _%_}
 use mathlib.Core.Bool.{Bool, true, false, not}
@@ -11,13 +11,13 @@ use lib.Dec.{eqb, ltb, leb}
 use lib.ListN.{getD, set}
 use Rattle.line.specs.Bits.{pick}
 use Rattle.rules.specs.Definitions.Longest.{longestOf}
-use Rattle.rules.specs.Definitions.Registers.{both, either, hasBit, lineControl, command, interruptReset, BOV, transmitted}
+use Rattle.rules.specs.Definitions.Registers.{both, either, hasBit, lineControl, command, lineStatusAt, transmissionStatus, lastMessageStatus, lastErrorStatus, interruptStatusAt, interruptReset, BOV, lineStatus, retriesByte, interruptStatus, transmitted}
 use Rattle.rules.specs.Definitions.Channels.{acknowledgeAsked}
 use Rattle.rules.specs.Definitions.Mailbox.{markedCher, markedChtx, resetMemory}
 use Rattle.rules.specs.Definitions.Reception.{underWay, dataCount}
 use Rattle.rules.specs.Definitions.Delivery.{memoryStored}
 use Rattle.rules.specs.Definitions.Attempt.{judge}
-use Rattle.rules.specs.Definitions.State.{isActive}
+use Rattle.rules.specs.Definitions.State.{isActive, isAsleep, isIdle}
 use Rattle.rules.specs.Definitions.Slots.{heard, drives, sampleOf}
 use Rattle.rules.specs.Definitions.Host.{resets, sleeps}
 use Rattle.rules.specs.Definitions.Run.{step, next}
@@ -206,11 +206,21 @@ rak o = acknowledgeAsked (getD (o .frame .bytes) 1 0)
 abbrev pub Settled : {A : Type 0} → Controller → Event → A → A → A → Type 0
 Settled c e before after now = now ≡ pick (accepted c e) after before
 
-abbrev pub TxD : Controller → Observer → Event → Type 0
-TxD c o Reset = Unit {0}
-TxD c o (Write address value) = Unit {0}
-TxD c o (Read address) = Unit {0}
-TxD c o (Slot levels) =
+-- what a host reads: 0x04 by the observer, the other registers that the controller writes, else the byte of the map. `% 256` as in writtenMap
+unfoldable pub readO : Controller → Observer → ℕ → ℕ
+readO c o address =
+    pick (eqb address lineStatusAt) (lineStatus (isAsleep (o .activity .mode)) (isIdle (o .activity .mode)) (not (isAway (o .tally .stand))) (underWay (o .frame .place)))
+    (pick (eqb address transmissionStatus) (retriesByte (c .core .report .sending))
+    (pick (eqb address lastMessageStatus) (retriesByte (c .core .report .message))
+    (pick (eqb address lastErrorStatus) (c .core .report .error)
+    (pick (eqb address interruptStatusAt) (interruptStatus (c .core .report .flags)) (getD (c .memory) (address % 256) 0)))))
+
+-- "the event's answer and listing give TXD after" the transmit inversion, "idle and asleep too"
+abbrev pub Answers : Controller → Observer → Event → Type 0
+Answers c o Reset = Unit {0}
+Answers c o (Write address value) = Unit {0}
+Answers c o (Read address) = accepted c (Read address) ≡ true → step c (Read address) .value ≡ readO c o address
+Answers c o (Slot levels) =
     accepted c (Slot levels) ≡ true → step c (Slot levels) .value ≡ transmitted (getD (next c (Slot levels) .memory) lineControl 0) (levelO (nextO c o (Slot levels)))
 
 -- what the sample is for the line and the frame under way, which Receiving.antt speaks of
@@ -221,8 +231,7 @@ Hears c o (Read address) = Unit {0}
 Hears c o (Slot levels) = heard (c .core) (judge (c .core .service .effort) (sampleOf c levels)) (sampleOf c levels) ≡ hearingIn c o levels
 
 pub record Settles (c : Controller) (o : Observer) (e : Event) : Type 0 where
-  -- "the event's answer and listing give TXD after" the transmit inversion, "idle and asleep too"
-  pub value : TxD c o e
+  pub value : Answers c o e
   pub hearing : Hears c o e
   pub memory : Settled c e (c .memory) (memoryO c o e) (next c e .memory)
   pub sending : Settled c e (c .core .report .sending) (sendingO c o e) (next c e .core .report .sending)
