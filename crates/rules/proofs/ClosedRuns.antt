@@ -10,7 +10,7 @@ use Rattle.rules.specs.Definitions.Slots.{drives}
 use Rattle.rules.specs.Definitions.Run.{fresh, step}
 use Rattle.rules.specs.Statements.Observer.{atReset}
 use Rattle.rules.specs.Statements.Claims.{Runs, Courses}
-use Rattle.rules.specs.Statements.Runs.{Counts, seenOver, setUp, ones, levels, sent, echoed, overdriven, ran, listening, asking, Stored, lastAnswer, sees, pin, again, sendingData, failures, overdrivenAt}
+use Rattle.rules.specs.Statements.Runs.{Counts, seenOver, setUp, ones, levels, sent, echoed, overdriven, ran, listening, asking, Stored, lastAnswer, sees, pin, again, long, sendingData, failures, overdrivenAt}
 use Rattle.rules.specs.declared.Choice.the-variants.{Lowest}
 use Rattle.rules.specs.declared.Mode.the-variants.{Active}
 use Rattle.rules.specs.declared.Event.the-variants.{Slot, Write, Read}
@@ -58,6 +58,11 @@ lowest-of-many = refl
 pub masked : matches 0x524 0xFF0 0x527 ≡ true
 unfolding matches
 masked = refl
+
+-- a bit under a mask one is compared
+pub compared : matches 0x524 0xFF0 0x534 ≡ false
+unfolding matches
+compared = refl
 
 -- a refused slot leaves an active controller active
 pub refused : (step (ran fresh setUp) (Slot 9) .next) .core .activity .mode ≡ Active
@@ -174,6 +179,16 @@ pub twelve-are-enough : sees (listening ++ (ones 12 ++ (Slot 0 ∷ Slot 1 ∷ (o
 unfolding lastAnswer ran sees listening ones levels asking
 twelve-are-enough = refl
 
+-- a valid frame that does not fit: BOV, CHER and RE, and no byte of it
+pub too-long : sees (listening ++ (ones 12 ++ levels (slots long))) (0x07 ∷ 0x09 ∷ 0x1B ∷ 0xFF ∷ 0x80 ∷ []) ≡ 0x20 ∷ 0x84 ∷ 0x1C ∷ 0x00 ∷ 0x00 ∷ []
+unfolding lastAnswer ran sees listening ones levels long
+too-long = refl
+
+-- a fault before any channel has matched: 0x07 alone
+pub unmatched-fault : sees (listening ++ (ones 12 ++ (Slot 0 ∷ Slot 1 ∷ []))) (0x07 ∷ 0x09 ∷ 0x1B ∷ []) ≡ 0x02 ∷ 0x80 ∷ 0x18 ∷ []
+unfolding lastAnswer ran sees listening ones
+unmatched-fault = refl
+
 -- a fault once the frame is matched: CHER and RE, and the channel's other bytes stay
 pub spoilt : sees (listening ++ (ones 12 ++ overdrivenAt asking 34)) (0x07 ∷ 0x09 ∷ 0x18 ∷ 0x19 ∷ 0x1A ∷ 0x1B ∷ 0x1E ∷ 0x1F ∷ []) ≡ 0x02 ∷ 0x84 ∷ 0xF2 ∷ 0x39 ∷ 0x7F ∷ 0x1C ∷ 0xFF ∷ 0xF0 ∷ []
 unfolding lastAnswer ran sees listening ones overdrivenAt asking levels
@@ -234,6 +249,8 @@ courses =
       four-are-enough = four-are-enough;
       eleven-are-too-few = eleven-are-too-few;
       twelve-are-enough = twelve-are-enough;
+      too-long = too-long;
+      unmatched-fault = unmatched-fault;
       spoilt = spoilt;
       host-meanwhile = host-meanwhile;
       idle-meanwhile = idle-meanwhile;
