@@ -119,3 +119,29 @@ failures (suc n) = ones 12 ++ (Slot 1 ∷ failures n)
 -- the first k slots of a frame as they are driven, and then a dominant one
 unfoldable pub overdrivenAt : Frame → ℕ → List Event
 overdrivenAt f k = levels (take k (slots f)) ++ (Slot 0 ∷ [])
+
+-- from a fresh controller: after a run, the number with which each of some events is refused, 0 for one that is accepted
+unfoldable pub refuses : List Event → List Event → List ℕ
+refuses es [] = []
+refuses es (x ∷ xs) = lastAnswer (record { refused = 0; value = 0; next = ran fresh es }) (x ∷ []) .refused ∷ refuses es xs
+
+-- a read, and a write of one value, at each of n addresses from a on
+unfoldable pub readsFrom : ℕ → ℕ → List Event
+readsFrom zero a = []
+readsFrom (suc n) a = Read a ∷ readsFrom n (suc a)
+
+unfoldable pub writesFrom : ℕ → ℕ → ℕ → List Event
+writesFrom zero a v = []
+writesFrom (suc n) a v = Write a v ∷ writesFrom n (suc a) v
+
+-- identifier 0xF23 with a command and data, and no acknowledge
+unfoldable pub framed : ℕ → List ℕ → Frame
+framed command bytes = record { identifier = 0xF23; command = command; bytes = bytes; acknowledge = false }
+
+-- channel 1 listens, with some of its bytes written anew; then a free line, and some levels
+unfoldable pub heardBy : List Event → List ℕ → List Event
+heardBy writes vs = listening ++ (writes ++ (ones 12 ++ levels vs))
+
+-- channel 0 with a command byte and a status byte; active, one slot
+unfoldable pub offered : ℕ → ℕ → List Event
+offered low status = Write 0x11 low ∷ Write 0x13 status ∷ Write 0x03 0x10 ∷ Slot 1 ∷ []
