@@ -11,7 +11,7 @@ use Rattle.rules.specs.Definitions.Host.{lineStatusOf}
 use Rattle.rules.specs.Definitions.Run.{fresh, step}
 use Rattle.rules.specs.Statements.Observer.{atReset}
 use Rattle.rules.specs.Statements.Claims.{Runs, Courses}
-use Rattle.rules.specs.Statements.Runs.{Counts, seenOver, setUp, ones, levels, sent, echoed, overdriven, ran, listening, asking, Stored, lastAnswer, sees, pin, again, long, sendingData, failures, overdrivenAt, refuses, readsFrom, writesFrom, framed, heardBy, offered}
+use Rattle.rules.specs.Statements.Runs.{Counts, seenOver, setUp, ones, levels, sent, echoed, overdriven, ran, listening, asking, Stored, lastAnswer, sees, pin, again, sendingData, failures, overdrivenAt, refuses, readsFrom, writesFrom, framed, heardBy, offered}
 use Rattle.rules.specs.declared.Choice.the-variants.{Lowest}
 use Rattle.rules.specs.declared.Mode.the-variants.{Active}
 use Rattle.rules.specs.declared.Event.the-variants.{Reset, Slot, Write, Read}
@@ -179,11 +179,6 @@ eleven-are-too-few = refl
 pub twelve-are-enough : sees (listening ++ (ones 12 ++ (Slot 0 ∷ Slot 1 ∷ (ones 12 ++ levels (slots asking))))) (0x07 ∷ 0x1B ∷ 0xFF ∷ []) ≡ 0x02 ∷ 0x19 ∷ 0x82 ∷ []
 unfolding lastAnswer ran sees listening ones levels asking
 twelve-are-enough = refl
-
--- a valid frame that does not fit: BOV, CHER and RE, and no byte of it
-pub too-long : sees (listening ++ (ones 12 ++ levels (slots long))) (0x07 ∷ 0x09 ∷ 0x1B ∷ 0xFF ∷ 0x80 ∷ []) ≡ 0x20 ∷ 0x84 ∷ 0x1C ∷ 0x00 ∷ 0x00 ∷ []
-unfolding lastAnswer ran sees listening ones levels long
-too-long = refl
 
 -- a fault before any channel has matched: 0x07 alone
 pub unmatched-fault : sees (listening ++ (ones 12 ++ (Slot 0 ∷ Slot 1 ∷ []))) (0x07 ∷ 0x09 ∷ 0x1B ∷ []) ≡ 0x02 ∷ 0x80 ∷ 0x18 ∷ []
@@ -377,7 +372,7 @@ unfolding lastAnswer ran sees ones levels framed
 channel-13 = refl
 
 pub channel-13-sends : sees (Write 0x79 0x38 ∷ Write 0x7B 0x08 ∷ Write 0x03 0x10 ∷ Slot 1 ∷ []) (0x04 ∷ 0x05 ∷ []) ≡ 0x02 ∷ 0x0D ∷ []
-unfolding lastAnswer ran sees 
+unfolding lastAnswer ran sees
 channel-13-sends = refl
 
 -- who sends: 0,0,0,1; 1,0,0,1; M_L 31; channel 1, linked to channel 0, in place of a channel 0 with 1,0,0,0 or CHER 1
@@ -469,7 +464,6 @@ courses =
       four-are-enough = four-are-enough;
       eleven-are-too-few = eleven-are-too-few;
       twelve-are-enough = twelve-are-enough;
-      too-long = too-long;
       unmatched-fault = unmatched-fault;
       spoilt = spoilt;
       host-meanwhile = host-meanwhile;

@@ -16,7 +16,7 @@ use Rattle.rules.specs.Statements.Observer.{atReset}
 use Rattle.rules.specs.Statements.Sending.{SendingOver}
 use Rattle.rules.specs.Statements.Settled.{SettledOver}
 use Rattle.rules.specs.Statements.Receiving.{noLog, ReceivingOver}
-use Rattle.rules.specs.Statements.Runs.{Counts, seenOver, setUp, ones, levels, sent, echoed, overdriven, ran, listening, asking, Stored, sees, pin, again, long, sendingData, failures, overdrivenAt, refuses, readsFrom, writesFrom, framed, heardBy, offered}
+use Rattle.rules.specs.Statements.Runs.{Counts, seenOver, setUp, ones, levels, sent, echoed, overdriven, ran, listening, asking, Stored, sees, pin, again, sendingData, failures, overdrivenAt, refuses, readsFrom, writesFrom, framed, heardBy, offered}
 use Rattle.rules.specs.declared.Choice.the-variants.{Lowest}
 use Rattle.rules.specs.declared.Mode.the-variants.{Active}
 use Rattle.rules.specs.declared.Controller.{Controller}
@@ -100,8 +100,6 @@ pub record Courses : Type 0 where
   -- after a fault a start is taken behind twelve recessive slots, not behind eleven; 0x07 keeps the fault
   pub eleven-are-too-few : sees (listening ++ (ones 12 ++ (Slot 0 ∷ Slot 1 ∷ (ones 11 ++ levels (slots asking))))) (0x07 ∷ 0x1B ∷ 0xFF ∷ []) ≡ 0x02 ∷ 0x18 ∷ 0x00 ∷ []
   pub twelve-are-enough : sees (listening ++ (ones 12 ++ (Slot 0 ∷ Slot 1 ∷ (ones 12 ++ levels (slots asking))))) (0x07 ∷ 0x1B ∷ 0xFF ∷ []) ≡ 0x02 ∷ 0x19 ∷ 0x82 ∷ []
-  -- a valid frame that does not fit: BOV, CHER and RE, and no byte of it
-  pub too-long : sees (listening ++ (ones 12 ++ levels (slots long))) (0x07 ∷ 0x09 ∷ 0x1B ∷ 0xFF ∷ 0x80 ∷ []) ≡ 0x20 ∷ 0x84 ∷ 0x1C ∷ 0x00 ∷ 0x00 ∷ []
   -- a fault before any channel has matched: 0x07 alone
   pub unmatched-fault : sees (listening ++ (ones 12 ++ (Slot 0 ∷ Slot 1 ∷ []))) (0x07 ∷ 0x09 ∷ 0x1B ∷ []) ≡ 0x02 ∷ 0x80 ∷ 0x18 ∷ []
   -- a fault once the frame is matched: CHER and RE, and the channel's other bytes stay

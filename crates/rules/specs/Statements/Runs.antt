@@ -102,10 +102,6 @@ Stored m = (getD m 0xFF 0 ≡ 0x82) × (getD m 0x80 0 ≡ 0xA5) × (getD m 0x81 
 unfoldable pub again : Frame
 again = record { identifier = 0xF23; command = 12; bytes = 0x12 ∷ 0x34 ∷ []; acknowledge = true }
 
--- three bytes, one more than channel 1 has room for; nobody acknowledges it
-unfoldable pub long : Frame
-long = record { identifier = 0xF23; command = 12; bytes = 0xA5 ∷ 0x3C ∷ 0x5A ∷ []; acknowledge = false }
-
 -- channel 0 sends the frame `asking`: data at 0xFF and 0x80, RAK 1; R = 2, MT 1; active
 unfoldable pub sendingData : List Event
 sendingData =
