@@ -450,6 +450,11 @@ pub linked-data-sent : pin (Write 0x10 0xF2 ∷ Write 0x11 0x38 ∷ Write 0x12 0
 unfolding lastAnswer ran pin ones levels framed
 linked-data-sent = refl
 
+-- channel 1, linked to channel 14, does not send: channel 2 does
+pub no-channel-14 : sees (Write 0x13 0x0A ∷ Write 0x1A 0x0E ∷ Write 0x03 0x10 ∷ Slot 1 ∷ []) (0x04 ∷ 0x05 ∷ []) ≡ 0x02 ∷ 0x02 ∷ []
+unfolding lastAnswer ran sees
+no-channel-14 = refl
+
 pub courses : Courses
 courses =
     record {
@@ -525,4 +530,5 @@ courses =
       own-check-spoilt = own-check-spoilt;
       own-acknowledge-spoilt = own-acknowledge-spoilt;
       linked-data-sent = linked-data-sent;
+      no-channel-14 = no-channel-14;
     }
