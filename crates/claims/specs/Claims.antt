@@ -5,7 +5,7 @@
 --   codec: `encoded`, `encodedRoom` (crates/encoder); `decoded`, `decodedRoom` of `reading` (crates/decoder)
 --   session: `headerAt`, `eventAt`, `endAt` (crates/session), of which `session` is made; its numbers: `decode` (crates/leb128)
 --   listing: `played`, `playedRoom` of `listingOf` (crates/player); for C: crates/frapmast
--- Nor the numbers and sessions that 01 runs (Cases in crates/leb128 and crates/session).
+-- Nor the numbers and sessions that 01 runs (Cases in crates/leb128 and crates/session), nor the closed runs `Courses` (crates/rules/specs/Statements/Claims.antt).
 --
 -- Legend. The notation is antt's; `rt doc` prints the path of the toolchain's guide, and guides/primer.md beside it has the language.
 --   (x : A) → B        for every x of A, B holds        A → B: if A, then B        A → ⊥: A does not hold
@@ -199,7 +199,7 @@ pub record Sending : Type 0 where
   -- (C + R + 1) × (60 + 10n) slots, by the tally's own count (SendingOver and Claim in crates/rules/specs/Statements/Sending.antt, the tally in Tally.antt, the observer
   -- that keeps it in Observer.antt). Of each event:
   --   agrees: mode, free line, frame under way, service, counts and driven level of the controller are those of the observer, which reads nothing of the controller but its
-  --     memory map and the levels driven and sampled
+  --     memory map, the levels driven and sampled, whether an event was accepted and the longest data length
   --   fits: the frame of the service under way is a frame no longer than the controller sends
   --   driven: in an accepted slot of an attempt, the levels driven in it, that of this slot included, begin the frame's slots, or those from the eleventh on where it joined
   --   errors: at most R + 1 attempts of the service have ended in error        slots: at most (C + R + 1) × (60 + 10n) slots were spent in its attempts

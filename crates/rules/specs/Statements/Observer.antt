@@ -1,5 +1,6 @@
 -- The claims' own record of a run (01, Sending: "is fed the run's events and driven levels; choices, starts and ends follow by these rules, not from the program's record").
--- Beside the events, the driven and the sampled levels and the memory map it reads nothing of the controller: it keeps its own mode, line, frame under way and tally.
+-- Beside the events, whether each was accepted, the driven and the sampled levels, the memory map and the longest data length it reads nothing of the controller: it keeps
+-- its own mode, line, frame under way and tally.
 --   Past == the line between frames        freeO, startsO == it is free, it takes a start        codeT == the code of an attempt's error
 --   hearsO == what a sample is for the line and the frame under way        sampledO, idleO, goesOnO == a slot        writtenO == a host write
 --   nextO == the observer after an event
