@@ -4,14 +4,18 @@ use mathlib.Core.List.{[], _∷_, _++_}
 use mathlib.Core.Path.{_≡_, refl}
 use lib.Dec.{leb}
 use lib.ListN.{getD, take, drop, replicate}
-use Rattle.line.specs.Frame.{slots}
-use Rattle.rules.specs.Definitions.Channels.{lowest, matches}
+use Rattle.line.specs.Bits.{bits}
+use Rattle.line.specs.LineCode.{lineCode}
+use Rattle.line.specs.Frame.{byteBits, slots, size}
+use Rattle.rules.specs.Definitions.Registers.{either, bit}
+use Rattle.rules.specs.Definitions.Channels.{receiveMessage, requestDetection, transmitMessage, deferredReply, lowest, matches}
+use Rattle.rules.specs.Definitions.State.{ranges}
 use Rattle.rules.specs.Definitions.Slots.{drives}
 use Rattle.rules.specs.Definitions.Host.{lineStatusOf}
 use Rattle.rules.specs.Definitions.Run.{fresh, step}
 use Rattle.rules.specs.Statements.Observer.{atReset}
 use Rattle.rules.specs.Statements.Claims.{Runs, Courses}
-use Rattle.rules.specs.Statements.Runs.{Counts, seenOver, setUp, ones, levels, sent, echoed, overdriven, ran, listening, asking, Stored, lastAnswer, sees, pin, again, sendingData, failures, overdrivenAt, refuses, readsFrom, writesFrom, framed, heardBy, offered}
+use Rattle.rules.specs.Statements.Runs.{Counts, seenOver, setUp, ones, levels, sent, echoed, overdriven, ran, listening, asking, Stored, lastAnswer, reads, sees, pin, again, sendingData, failures, overdrivenAt, refuses, readsFrom, writesFrom, framed, heardBy, offered, typesFrom, types, flipped, beyond, largestOf}
 use Rattle.rules.specs.declared.Choice.the-variants.{Lowest}
 use Rattle.rules.specs.declared.Mode.the-variants.{Active}
 use Rattle.rules.specs.declared.Event.the-variants.{Reset, Slot, Write, Read}
@@ -132,25 +136,25 @@ runs =
 
 -- R = 15: fifteen errors leave TE 0, the sixteenth raises it, with CHER and CHTx; 0x05, 0x06, 0x09, and channel 0's status
 pub fifteen-errors : sees (setUp ++ (Write 0x01 0xF3 ∷ failures 15)) (0x05 ∷ 0x06 ∷ 0x09 ∷ 0x13 ∷ []) ≡ 0xF0 ∷ 0x00 ∷ 0x80 ∷ 0x08 ∷ []
-unfolding lastAnswer ran sees setUp failures ones
+unfolding lastAnswer ran sees reads setUp failures ones
 fifteen-errors = refl
 
 pub sixteen-errors : sees (setUp ++ (Write 0x01 0xF3 ∷ failures 16)) (0x05 ∷ 0x06 ∷ 0x09 ∷ 0x13 ∷ []) ≡ 0x01 ∷ 0xF0 ∷ 0x90 ∷ 0x0E ∷ []
-unfolding lastAnswer ran sees setUp failures ones
+unfolding lastAnswer ran sees reads setUp failures ones
 sixteen-errors = refl
 
 -- RAK 1, data across 0xFF: the last slot, and none before it, raises TOK, with CHTx
 pub not-sent-yet : sees (sendingData ++ (ones 12 ++ levels (take 79 (slots asking)))) (0x09 ∷ 0x13 ∷ []) ≡ 0x80 ∷ 0x18 ∷ []
-unfolding lastAnswer ran sees sendingData ones levels asking
+unfolding lastAnswer ran sees reads sendingData ones levels asking
 not-sent-yet = refl
 
 pub sent-with-data : sees (sendingData ++ (ones 12 ++ levels (slots asking))) (0x06 ∷ 0x07 ∷ 0x09 ∷ 0x13 ∷ []) ≡ 0x00 ∷ 0x00 ∷ 0x88 ∷ 0x1A ∷ []
-unfolding lastAnswer ran sees sendingData ones levels asking
+unfolding lastAnswer ran sees reads sendingData ones levels asking
 sent-with-data = refl
 
 -- a loss in a first half is no error; after a loss in data the frame's next level, a dominant one, is not driven
 pub lost-in-a-first-half : sees (setUp ++ (ones 12 ++ overdrivenAt sent 13)) (0x04 ∷ 0x05 ∷ 0x07 ∷ []) ≡ 0x03 ∷ 0x00 ∷ 0x00 ∷ []
-unfolding lastAnswer ran sees setUp ones overdrivenAt sent levels
+unfolding lastAnswer ran sees reads setUp ones overdrivenAt sent levels
 lost-in-a-first-half = refl
 
 pub lost-in-data : pin (sendingData ++ (ones 12 ++ overdrivenAt asking 30)) ≡ 1
@@ -159,7 +163,7 @@ lost-in-data = refl
 
 -- two good frames in a row, the second from the slot after the first: both stored, and the controller is still active
 pub two-in-a-row : sees (listening ++ (ones 12 ++ (levels (slots asking) ++ (Write 0x1B 0x18 ∷ levels (slots again))))) (0x04 ∷ 0x1B ∷ 0xFF ∷ 0x80 ∷ 0x81 ∷ []) ≡ 0x00 ∷ 0x19 ∷ 0x82 ∷ 0x12 ∷ 0x34 ∷ []
-unfolding lastAnswer ran sees listening ones levels asking again
+unfolding lastAnswer ran sees reads listening ones levels asking again
 two-in-a-row = refl
 
 -- after a good frame the next attempt starts in the fifth slot, not sooner
@@ -173,40 +177,40 @@ four-are-enough = refl
 
 -- after a fault a start is taken behind twelve recessive slots, not behind eleven; 0x07 keeps the fault
 pub eleven-are-too-few : sees (listening ++ (ones 12 ++ (Slot 0 ∷ Slot 1 ∷ (ones 11 ++ levels (slots asking))))) (0x07 ∷ 0x1B ∷ 0xFF ∷ []) ≡ 0x02 ∷ 0x18 ∷ 0x00 ∷ []
-unfolding lastAnswer ran sees listening ones levels asking
+unfolding lastAnswer ran sees reads listening ones levels asking
 eleven-are-too-few = refl
 
 pub twelve-are-enough : sees (listening ++ (ones 12 ++ (Slot 0 ∷ Slot 1 ∷ (ones 12 ++ levels (slots asking))))) (0x07 ∷ 0x1B ∷ 0xFF ∷ []) ≡ 0x02 ∷ 0x19 ∷ 0x82 ∷ []
-unfolding lastAnswer ran sees listening ones levels asking
+unfolding lastAnswer ran sees reads listening ones levels asking
 twelve-are-enough = refl
 
 -- a fault before any channel has matched: 0x07 alone
 pub unmatched-fault : sees (listening ++ (ones 12 ++ (Slot 0 ∷ Slot 1 ∷ []))) (0x07 ∷ 0x09 ∷ 0x1B ∷ []) ≡ 0x02 ∷ 0x80 ∷ 0x18 ∷ []
-unfolding lastAnswer ran sees listening ones
+unfolding lastAnswer ran sees reads listening ones
 unmatched-fault = refl
 
 -- a fault once the frame is matched: CHER and RE, and the channel's other bytes stay
 pub spoilt : sees (listening ++ (ones 12 ++ overdrivenAt asking 34)) (0x07 ∷ 0x09 ∷ 0x18 ∷ 0x19 ∷ 0x1A ∷ 0x1B ∷ 0x1E ∷ 0x1F ∷ []) ≡ 0x02 ∷ 0x84 ∷ 0xF2 ∷ 0x39 ∷ 0x7F ∷ 0x1C ∷ 0xFF ∷ 0xF0 ∷ []
-unfolding lastAnswer ran sees listening ones overdrivenAt asking levels
+unfolding lastAnswer ran sees reads listening ones overdrivenAt asking levels
 spoilt = refl
 
 -- what the host does while a frame is under way: a write, a read and ACTI leave it; IDLE drops it
 pub host-meanwhile : sees (listening ++ (ones 12 ++ (levels (take 40 (slots asking)) ++ (Write 0x90 0x55 ∷ Read 0x04 ∷ Write 0x03 0x10 ∷ levels (drop 40 (slots asking)))))) (0x09 ∷ 0x1B ∷ 0x80 ∷ 0x90 ∷ []) ≡ 0x82 ∷ 0x19 ∷ 0xA5 ∷ 0x55 ∷ []
-unfolding lastAnswer ran sees listening ones levels asking
+unfolding lastAnswer ran sees reads listening ones levels asking
 host-meanwhile = refl
 
 pub idle-meanwhile : sees (listening ++ (ones 12 ++ (levels (take 40 (slots asking)) ++ (Write 0x03 0x20 ∷ levels (drop 40 (slots asking)))))) (0x04 ∷ 0x09 ∷ 0x1B ∷ []) ≡ 0x20 ∷ 0x80 ∷ 0x18 ∷ []
-unfolding lastAnswer ran sees listening ones levels asking
+unfolding lastAnswer ran sees reads listening ones levels asking
 idle-meanwhile = refl
 
 -- a service that waits for a free line: TXG, not RXG
 pub waiting : sees (setUp ++ ones 3) (0x04 ∷ 0x05 ∷ []) ≡ 0x02 ∷ 0x00 ∷ []
-unfolding lastAnswer ran sees setUp ones
+unfolding lastAnswer ran sees reads setUp ones
 waiting = refl
 
 -- no channel is ready: no service, and no status bit is cleared
 pub nothing-to-send : sees (Write 0x03 0x10 ∷ ones 14) (0x04 ∷ 0x09 ∷ []) ≡ 0x00 ∷ 0x80 ∷ []
-unfolding lastAnswer ran sees ones
+unfolding lastAnswer ran sees reads ones
 nothing-to-send = refl
 
 -- the level at the pin, and after the transmit inversion
@@ -220,15 +224,15 @@ pin-inverted = refl
 
 -- a write to 0x0B clears; a write changes its own byte; a reset leaves channels and mailbox
 pub cleared : sees (Write 0x0B 0x80 ∷ []) (0x09 ∷ []) ≡ 0x00 ∷ []
-unfolding lastAnswer ran sees
+unfolding lastAnswer ran sees reads
 cleared = refl
 
 pub own-byte : sees (Write 0x0A 0x1F ∷ []) (0x0A ∷ 0x90 ∷ []) ≡ 0x1F ∷ 0x00 ∷ []
-unfolding lastAnswer ran sees
+unfolding lastAnswer ran sees reads
 own-byte = refl
 
 pub reset-leaves : sees (Write 0x28 0x52 ∷ Write 0x90 0x55 ∷ Write 0x01 0xF3 ∷ Write 0x03 0x80 ∷ []) (0x01 ∷ 0x0A ∷ 0x28 ∷ 0x90 ∷ []) ≡ 0x02 ∷ 0x80 ∷ 0x52 ∷ 0x55 ∷ []
-unfolding lastAnswer ran sees
+unfolding lastAnswer ran sees reads
 reset-leaves = refl
 
 -- numbers refused: at 0x00 to 0x10 a read, and a write of 0x02; the fixed bits of 0x01 and 0x03
@@ -268,28 +272,28 @@ receive-inverted = refl
 
 -- REAR between attempts ends the service and marks nothing; MSDC has no effect
 pub rearbitrated : sees (setUp ++ (ones 3 ++ (Write 0x03 0x08 ∷ []))) (0x04 ∷ 0x13 ∷ []) ≡ 0x00 ∷ 0x08 ∷ []
-unfolding lastAnswer ran sees setUp ones
+unfolding lastAnswer ran sees reads setUp ones
 rearbitrated = refl
 
 pub msdc : sees (setUp ++ (ones 3 ++ (Write 0x03 0x01 ∷ []))) (0x04 ∷ 0x13 ∷ []) ≡ 0x02 ∷ 0x08 ∷ []
-unfolding lastAnswer ran sees setUp ones
+unfolding lastAnswer ran sees reads setUp ones
 msdc = refl
 
 -- the codes of 0x07: ACKE, FCSE, FV for an acknowledge that RAK 0 does not ask for, BOV; a frame that does not fit is not acknowledged
 pub not-acknowledged : sees (sendingData ++ (ones 12 ++ (levels (take 71 (slots asking)) ++ ones 1))) (0x05 ∷ 0x07 ∷ 0x09 ∷ []) ≡ 0x10 ∷ 0x04 ∷ 0x80 ∷ []
-unfolding lastAnswer ran sees sendingData ones levels asking
+unfolding lastAnswer ran sees reads sendingData ones levels asking
 not-acknowledged = refl
 
 pub check-wrong : sees (heardBy [] (take 40 (slots asking) ++ drop 40 (slots again))) (0x07 ∷ 0x09 ∷ 0x1B ∷ []) ≡ 0x08 ∷ 0x84 ∷ 0x1C ∷ []
-unfolding lastAnswer ran sees heardBy listening ones levels asking again
+unfolding lastAnswer ran sees reads heardBy listening ones levels asking again
 check-wrong = refl
 
 pub acknowledge-unasked : sees (heardBy [] (take 50 (slots (framed 8 [])) ++ (1 ∷ 0 ∷ []))) (0x07 ∷ 0x09 ∷ 0x1B ∷ []) ≡ 0x01 ∷ 0x84 ∷ 0x1C ∷ []
-unfolding lastAnswer ran sees heardBy listening ones levels framed
+unfolding lastAnswer ran sees reads heardBy listening ones levels framed
 acknowledge-unasked = refl
 
 pub overflow : sees (heardBy (Write 0x1B 0x10 ∷ []) (slots asking)) (0x07 ∷ 0x09 ∷ 0x1B ∷ 0xFF ∷ 0x80 ∷ []) ≡ 0x20 ∷ 0x84 ∷ 0x14 ∷ 0x00 ∷ 0x00 ∷ []
-unfolding lastAnswer ran sees heardBy listening ones levels asking
+unfolding lastAnswer ran sees reads heardBy listening ones levels asking
 overflow = refl
 
 pub overflow-unanswered : pin (heardBy (Write 0x1B 0x10 ∷ []) (take 71 (slots asking))) ≡ 1
@@ -298,24 +302,24 @@ overflow-unanswered = refl
 
 -- a reply request: taken by 1,0,1,0 and stored with R/W and RTR; with data it is CV
 pub request : sees (heardBy (Write 0x19 0x3A ∷ Write 0x1B 0x1A ∷ []) (slots (framed 11 []))) (0x07 ∷ 0x09 ∷ 0x19 ∷ 0x1B ∷ 0xFF ∷ []) ≡ 0x00 ∷ 0x81 ∷ 0x3A ∷ 0x1B ∷ 0x60 ∷ []
-unfolding lastAnswer ran sees heardBy listening ones levels framed
+unfolding lastAnswer ran sees reads heardBy listening ones levels framed
 request = refl
 
 pub request-with-data : sees (heardBy (Write 0x19 0x3A ∷ Write 0x1B 0x1A ∷ []) (slots (framed 11 (0xA5 ∷ [])))) (0x07 ∷ 0x09 ∷ 0x1B ∷ []) ≡ 0x02 ∷ 0x84 ∷ 0x1E ∷ []
-unfolding lastAnswer ran sees heardBy listening ones levels framed
+unfolding lastAnswer ran sees reads heardBy listening ones levels framed
 request-with-data = refl
 
 pub request-again : sees (heardBy (Write 0x19 0x3A ∷ Write 0x1B 0x1B ∷ []) (slots (framed 11 []))) (0x07 ∷ 0x09 ∷ 0x1B ∷ []) ≡ 0x00 ∷ 0x80 ∷ 0x1B ∷ []
-unfolding lastAnswer ran sees heardBy listening ones levels framed
+unfolding lastAnswer ran sees reads heardBy listening ones levels framed
 request-again = refl
 
 -- a link: the pointer and length of channel 13, the status bits of channel 1; a link to channel 14 takes nothing
 pub linked : sees (heardBy (Write 0x1A 0x0D ∷ Write 0x1B 0x00 ∷ Write 0x7A 0x20 ∷ Write 0x7B 0x1A ∷ []) (slots asking)) (0x06 ∷ 0x09 ∷ 0x1B ∷ 0x7B ∷ 0xA0 ∷ 0xA1 ∷ 0xA2 ∷ []) ≡ 0x01 ∷ 0x82 ∷ 0x01 ∷ 0x1A ∷ 0x82 ∷ 0xA5 ∷ 0x3C ∷ []
-unfolding lastAnswer ran sees heardBy listening ones levels asking
+unfolding lastAnswer ran sees reads heardBy listening ones levels asking
 linked = refl
 
 pub linked-to-14 : sees (heardBy (Write 0x1A 0x0E ∷ Write 0x1B 0x00 ∷ []) (slots asking)) (0x09 ∷ 0x1B ∷ []) ≡ 0x80 ∷ 0x00 ∷ []
-unfolding lastAnswer ran sees heardBy listening ones levels asking
+unfolding lastAnswer ran sees reads heardBy listening ones levels asking
 linked-to-14 = refl
 
 -- DRAK 1: no acknowledge is driven
@@ -325,98 +329,98 @@ drak = refl
 
 -- tag bits under a mask zero are not compared, and rewritten with the identifier received; under a mask one they are compared
 pub low-bits-masked : sees (heardBy (Write 0x19 0x99 ∷ Write 0x1F 0x00 ∷ []) (slots asking)) (0x09 ∷ 0x18 ∷ 0x19 ∷ 0x1B ∷ []) ≡ 0x82 ∷ 0xF2 ∷ 0x39 ∷ 0x19 ∷ []
-unfolding lastAnswer ran sees heardBy listening ones levels asking
+unfolding lastAnswer ran sees reads heardBy listening ones levels asking
 low-bits-masked = refl
 
 pub high-bits-masked : sees (heardBy (Write 0x18 0x52 ∷ Write 0x1E 0x00 ∷ []) (slots asking)) (0x09 ∷ 0x18 ∷ 0x19 ∷ 0x1B ∷ []) ≡ 0x82 ∷ 0xF2 ∷ 0x39 ∷ 0x19 ∷ []
-unfolding lastAnswer ran sees heardBy listening ones levels asking
+unfolding lastAnswer ran sees reads heardBy listening ones levels asking
 high-bits-masked = refl
 
 pub high-bits-compared : sees (heardBy (Write 0x18 0x52 ∷ []) (slots (framed 8 []))) (0x09 ∷ 0x18 ∷ 0x1B ∷ []) ≡ 0x80 ∷ 0x52 ∷ 0x18 ∷ []
-unfolding lastAnswer ran sees heardBy listening ones levels framed
+unfolding lastAnswer ran sees reads heardBy listening ones levels framed
 high-bits-compared = refl
 
 pub low-bits-compared : sees (heardBy (Write 0x19 0x99 ∷ []) (slots (framed 8 []))) (0x09 ∷ 0x19 ∷ 0x1B ∷ []) ≡ 0x80 ∷ 0x99 ∷ 0x18 ∷ []
-unfolding lastAnswer ran sees heardBy listening ones levels framed
+unfolding lastAnswer ran sees reads heardBy listening ones levels framed
 low-bits-compared = refl
 
 -- ignored: EXT 0; R/W 0 with RTR 1; R/W 1 with RTR 0; a channel with CHRx 1
 pub ext-0 : sees (heardBy [] (slots (framed 4 []))) (0x07 ∷ 0x09 ∷ 0x1B ∷ []) ≡ 0x00 ∷ 0x80 ∷ 0x18 ∷ []
-unfolding lastAnswer ran sees heardBy listening ones levels framed
+unfolding lastAnswer ran sees reads heardBy listening ones levels framed
 ext-0 = refl
 
 pub rtr-without-rw : sees (heardBy [] (slots (framed 13 (0xA5 ∷ [])))) (0x07 ∷ 0x09 ∷ 0x1B ∷ []) ≡ 0x00 ∷ 0x80 ∷ 0x18 ∷ []
-unfolding lastAnswer ran sees heardBy listening ones levels framed
+unfolding lastAnswer ran sees reads heardBy listening ones levels framed
 rtr-without-rw = refl
 
 pub rw-without-rtr : sees (heardBy (Write 0x19 0x3A ∷ Write 0x1B 0x1A ∷ []) (slots (framed 14 []))) (0x07 ∷ 0x09 ∷ 0x1B ∷ []) ≡ 0x00 ∷ 0x80 ∷ 0x1A ∷ []
-unfolding lastAnswer ran sees heardBy listening ones levels framed
+unfolding lastAnswer ran sees reads heardBy listening ones levels framed
 rw-without-rtr = refl
 
 pub not-emptied : sees (heardBy (Write 0x1B 0x1B ∷ []) (slots (framed 8 []))) (0x07 ∷ 0x09 ∷ 0x1B ∷ []) ≡ 0x00 ∷ 0x80 ∷ 0x1B ∷ []
-unfolding lastAnswer ran sees heardBy listening ones levels framed
+unfolding lastAnswer ran sees reads heardBy listening ones levels framed
 not-emptied = refl
 
 -- CHTx beside CHRx, RNOK; CHTx beside CHER
 pub rnok : sees (heardBy (Write 0x1B 0x1A ∷ []) (slots (framed 8 []))) (0x06 ∷ 0x07 ∷ 0x09 ∷ 0x1B ∷ []) ≡ 0x01 ∷ 0x00 ∷ 0x81 ∷ 0x1B ∷ []
-unfolding lastAnswer ran sees heardBy listening ones levels framed
+unfolding lastAnswer ran sees reads heardBy listening ones levels framed
 rnok = refl
 
 pub spoilt-beside-chtx : sees (heardBy (Write 0x1B 0x1A ∷ []) (take 34 (slots asking) ++ (0 ∷ []))) (0x07 ∷ 0x09 ∷ 0x1B ∷ []) ≡ 0x02 ∷ 0x84 ∷ 0x1E ∷ []
-unfolding lastAnswer ran sees heardBy listening ones levels asking
+unfolding lastAnswer ran sees reads heardBy listening ones levels asking
 spoilt-beside-chtx = refl
 
 -- channel 13 takes a frame, and sends
 pub channel-13 : sees (Write 0x78 0xF2 ∷ Write 0x79 0x39 ∷ Write 0x7A 0x7F ∷ Write 0x7B 0x18 ∷ Write 0x7E 0xFF ∷ Write 0x7F 0xF0 ∷ Write 0x03 0x10 ∷ (ones 12 ++ levels (slots (framed 8 [])))) (0x06 ∷ 0x09 ∷ 0x7B ∷ 0xFF ∷ []) ≡ 0x0D ∷ 0x81 ∷ 0x19 ∷ 0x00 ∷ []
-unfolding lastAnswer ran sees ones levels framed
+unfolding lastAnswer ran sees reads ones levels framed
 channel-13 = refl
 
 pub channel-13-sends : sees (Write 0x79 0x38 ∷ Write 0x7B 0x08 ∷ Write 0x03 0x10 ∷ Slot 1 ∷ []) (0x04 ∷ 0x05 ∷ []) ≡ 0x02 ∷ 0x0D ∷ []
-unfolding lastAnswer ran sees
+unfolding lastAnswer ran sees reads
 channel-13-sends = refl
 
 -- who sends: 0,0,0,1; 1,0,0,1; M_L 31; channel 1, linked to channel 0, in place of a channel 0 with 1,0,0,0 or CHER 1
 pub sends-again : sees (offered 0x38 0x09) (0x04 ∷ 0x05 ∷ []) ≡ 0x02 ∷ 0x00 ∷ []
-unfolding lastAnswer ran sees offered
+unfolding lastAnswer ran sees reads offered
 sends-again = refl
 
 pub deferred-reply : sees (offered 0x3A 0x09) (0x04 ∷ 0x05 ∷ []) ≡ 0x02 ∷ 0x00 ∷ []
-unfolding lastAnswer ran sees offered
+unfolding lastAnswer ran sees reads offered
 deferred-reply = refl
 
 pub longest-sent : sees (offered 0x38 0xF8) (0x04 ∷ 0x05 ∷ []) ≡ 0x02 ∷ 0x00 ∷ []
-unfolding lastAnswer ran sees offered
+unfolding lastAnswer ran sees reads offered
 longest-sent = refl
 
 pub no-reply-yet : sees (offered 0x3A 0x08) (0x04 ∷ 0x05 ∷ []) ≡ 0x02 ∷ 0x01 ∷ []
-unfolding lastAnswer ran sees offered
+unfolding lastAnswer ran sees reads offered
 no-reply-yet = refl
 
 pub cher-1 : sees (offered 0x38 0x0C) (0x04 ∷ 0x05 ∷ []) ≡ 0x02 ∷ 0x01 ∷ []
-unfolding lastAnswer ran sees offered
+unfolding lastAnswer ran sees reads offered
 cher-1 = refl
 
 -- thirty data bytes: the count in the status byte, the first and the last, and no other
 pub longest-taken : sees (heardBy (Write 0x1A 0x10 ∷ Write 0x1B 0xF8 ∷ []) (slots (framed 8 (replicate 30 0xA5)))) (0x09 ∷ 0x1B ∷ 0x90 ∷ 0x91 ∷ 0xAE ∷ 0xAF ∷ []) ≡ 0x81 ∷ 0xF9 ∷ 0x1E ∷ 0xA5 ∷ 0xA5 ∷ 0x00 ∷ []
-unfolding lastAnswer ran sees heardBy listening ones levels framed
+unfolding lastAnswer ran sees reads heardBy listening ones levels framed
 longest-taken = refl
 
 pub no-request : sees (heardBy [] (slots (framed 3 (0xA5 ∷ [])))) (0x07 ∷ 0x09 ∷ 0x1B ∷ []) ≡ 0x00 ∷ 0x80 ∷ 0x18 ∷ []
-unfolding lastAnswer ran sees heardBy listening ones levels framed
+unfolding lastAnswer ran sees reads heardBy listening ones levels framed
 no-request = refl
 
 -- CV: a pair 11, and a dominant eighth end-of-frame slot
 pub pair-11 : sees (heardBy [] (take 39 (slots asking) ++ (1 ∷ []))) (0x07 ∷ 0x09 ∷ 0x1B ∷ []) ≡ 0x02 ∷ 0x84 ∷ 0x1C ∷ []
-unfolding lastAnswer ran sees heardBy listening ones levels asking
+unfolding lastAnswer ran sees reads heardBy listening ones levels asking
 pair-11 = refl
 
 pub end-spoilt : sees (heardBy [] (take 79 (slots asking) ++ (0 ∷ []))) (0x07 ∷ 0x09 ∷ 0x1B ∷ 0xFF ∷ []) ≡ 0x02 ∷ 0x84 ∷ 0x1C ∷ 0x00 ∷ []
-unfolding lastAnswer ran sees heardBy listening ones levels asking
+unfolding lastAnswer ran sees reads heardBy listening ones levels asking
 end-spoilt = refl
 
 -- a dominant slot starts the count of recessive ones again
 pub count-starts-again : sees (listening ++ (ones 11 ++ (Slot 0 ∷ (ones 11 ++ levels (slots asking))))) (0x07 ∷ 0x09 ∷ 0x1B ∷ []) ≡ 0x00 ∷ 0x80 ∷ 0x18 ∷ []
-unfolding lastAnswer ran sees listening ones levels asking
+unfolding lastAnswer ran sees reads listening ones levels asking
 count-starts-again = refl
 
 -- 0x04 has SPG in bit 6; no read shows it, for none is accepted asleep
@@ -426,23 +430,23 @@ sleeping = refl
 
 -- the sender: CV in the end of frame, in the start and in the end of data, FCSE in the check, ACKE in the first acknowledge slot
 pub own-end-spoilt : sees (sendingData ++ (ones 12 ++ overdrivenAt asking 72)) (0x05 ∷ 0x07 ∷ 0x09 ∷ []) ≡ 0x10 ∷ 0x02 ∷ 0x80 ∷ []
-unfolding lastAnswer ran sees sendingData ones overdrivenAt asking levels
+unfolding lastAnswer ran sees reads sendingData ones overdrivenAt asking levels
 own-end-spoilt = refl
 
 pub own-start-spoilt : sees (setUp ++ failures 1) (0x05 ∷ 0x07 ∷ 0x09 ∷ []) ≡ 0x10 ∷ 0x02 ∷ 0x80 ∷ []
-unfolding lastAnswer ran sees setUp failures ones
+unfolding lastAnswer ran sees reads setUp failures ones
 own-start-spoilt = refl
 
 pub own-end-of-data-spoilt : sees (sendingData ++ (ones 12 ++ (levels (take 68 (slots asking)) ++ ones 1))) (0x05 ∷ 0x07 ∷ 0x09 ∷ []) ≡ 0x10 ∷ 0x02 ∷ 0x80 ∷ []
-unfolding lastAnswer ran sees sendingData ones levels asking
+unfolding lastAnswer ran sees reads sendingData ones levels asking
 own-end-of-data-spoilt = refl
 
 pub own-check-spoilt : sees (sendingData ++ (ones 12 ++ overdrivenAt asking 53)) (0x05 ∷ 0x07 ∷ 0x09 ∷ []) ≡ 0x10 ∷ 0x08 ∷ 0x80 ∷ []
-unfolding lastAnswer ran sees sendingData ones overdrivenAt asking levels
+unfolding lastAnswer ran sees reads sendingData ones overdrivenAt asking levels
 own-check-spoilt = refl
 
 pub own-acknowledge-spoilt : sees (sendingData ++ (ones 12 ++ overdrivenAt asking 70)) (0x05 ∷ 0x07 ∷ 0x09 ∷ []) ≡ 0x10 ∷ 0x04 ∷ 0x80 ∷ []
-unfolding lastAnswer ran sees sendingData ones overdrivenAt asking levels
+unfolding lastAnswer ran sees reads sendingData ones overdrivenAt asking levels
 own-acknowledge-spoilt = refl
 
 -- a channel that sends by a link has the data behind the pointer of the channel it names
@@ -452,8 +456,139 @@ linked-data-sent = refl
 
 -- channel 1, linked to channel 14, does not send: channel 2 does
 pub no-channel-14 : sees (Write 0x13 0x0A ∷ Write 0x1A 0x0E ∷ Write 0x03 0x10 ∷ Slot 1 ∷ []) (0x04 ∷ 0x05 ∷ []) ≡ 0x02 ∷ 0x02 ∷ []
-unfolding lastAnswer ran sees
+unfolding lastAnswer ran sees reads
 no-channel-14 = refl
+
+-- a channel with CHER 1 listens, and CHER stays; so does one with EXT 0; 1,1,0,0 takes no frame with R/W 1 and RTR 0
+pub cher-listens : sees (heardBy (Write 0x1B 0x1C ∷ []) (slots (framed 8 []))) (0x09 ∷ 0x1B ∷ []) ≡ 0x81 ∷ 0x1D ∷ []
+unfolding lastAnswer ran heardBy listening ones levels framed sees reads
+cher-listens = refl
+
+pub channel-ext-0 : sees (heardBy (Write 0x19 0x31 ∷ []) (slots (framed 8 []))) (0x09 ∷ 0x19 ∷ 0x1B ∷ []) ≡ 0x81 ∷ 0x31 ∷ 0x19 ∷ []
+unfolding lastAnswer ran heardBy listening ones levels framed sees reads
+channel-ext-0 = refl
+
+pub no-reply-taken : sees (heardBy (Write 0x19 0x3B ∷ []) (slots (framed 10 []))) (0x09 ∷ 0x1B ∷ []) ≡ 0x80 ∷ 0x18 ∷ []
+unfolding lastAnswer ran heardBy listening ones levels framed sees reads
+no-reply-taken = refl
+
+-- message types, for RNW, RTR, CHTx, CHRx of 0 to 15: sent, takes data, takes requests
+pub types-sent : types (λ b. either (transmitMessage b) (deferredReply b)) ≡ 1 ∷ 1 ∷ 0 ∷ 0 ∷ 0 ∷ 0 ∷ 0 ∷ 0 ∷ 0 ∷ 1 ∷ 0 ∷ 0 ∷ 0 ∷ 0 ∷ 0 ∷ 0 ∷ []
+unfolding transmitMessage deferredReply types typesFrom bit
+types-sent = refl
+
+pub types-of-data : types receiveMessage ≡ 0 ∷ 0 ∷ 0 ∷ 0 ∷ 1 ∷ 0 ∷ 1 ∷ 0 ∷ 0 ∷ 0 ∷ 0 ∷ 0 ∷ 0 ∷ 0 ∷ 0 ∷ 0 ∷ []
+unfolding receiveMessage types typesFrom bit
+types-of-data = refl
+
+pub types-of-requests : types requestDetection ≡ 0 ∷ 0 ∷ 0 ∷ 0 ∷ 0 ∷ 0 ∷ 0 ∷ 0 ∷ 0 ∷ 0 ∷ 1 ∷ 0 ∷ 0 ∷ 0 ∷ 0 ∷ 0 ∷ []
+unfolding requestDetection types typesFrom bit
+types-of-requests = refl
+
+-- a link is four bits of the pointer; DRAK is that of channel 1; a link to a link takes nothing
+pub link-high-bits : sees (heardBy (Write 0x1A 0x1D ∷ Write 0x1B 0x00 ∷ Write 0x7A 0xA0 ∷ Write 0x7B 0x1A ∷ []) (slots asking)) (0x09 ∷ 0x1B ∷ 0xA0 ∷ []) ≡ 0x82 ∷ 0x01 ∷ 0x82 ∷ []
+unfolding lastAnswer ran heardBy listening ones levels asking sees reads
+link-high-bits = refl
+
+pub linked-drak : pin (heardBy (Write 0x1A 0x1D ∷ Write 0x1B 0x00 ∷ Write 0x7A 0xA0 ∷ Write 0x7B 0x1A ∷ []) (take 71 (slots asking))) ≡ 0
+unfolding lastAnswer ran heardBy listening ones levels asking pin
+linked-drak = refl
+
+pub link-to-link : sees (heardBy (Write 0x1A 0x0D ∷ Write 0x1B 0x00 ∷ Write 0x7A 0x0C ∷ Write 0x7B 0x02 ∷ Write 0x72 0x20 ∷ Write 0x73 0x1A ∷ []) (slots asking)) (0x09 ∷ 0x1B ∷ []) ≡ 0x80 ∷ 0x00 ∷ []
+unfolding lastAnswer ran heardBy listening ones levels asking sees reads
+link-to-link = refl
+
+-- a dominant first acknowledge slot is judged in the second; FV there, and where the model drove 10 and 11 is sampled
+pub still-acknowledges : pin (heardBy [] (take 70 (slots asking) ++ (0 ∷ []))) ≡ 0
+unfolding lastAnswer ran heardBy listening ones levels asking pin
+still-acknowledges = refl
+
+pub first-slot-dominant : sees (heardBy [] (take 70 (slots asking) ++ (0 ∷ 0 ∷ []))) (0x07 ∷ 0x09 ∷ 0x1B ∷ []) ≡ 0x01 ∷ 0x84 ∷ 0x1C ∷ []
+unfolding lastAnswer ran heardBy listening ones levels asking sees reads
+first-slot-dominant = refl
+
+pub acknowledge-unseen : sees (heardBy [] (take 70 (slots asking) ++ (1 ∷ 1 ∷ []))) (0x07 ∷ 0x09 ∷ 0x1B ∷ []) ≡ 0x01 ∷ 0x84 ∷ 0x1C ∷ []
+unfolding lastAnswer ran heardBy listening ones levels asking sees reads
+acknowledge-unseen = refl
+
+-- the check is judged in the pair 00, after the length; a reply request with data is CV even where its check is wrong; the 68th nibble is CV
+pub check-at-once : sees (heardBy [] (take 40 (slots asking) ++ take 30 (drop 40 (slots again)))) (0x04 ∷ 0x07 ∷ 0x09 ∷ []) ≡ 0x00 ∷ 0x08 ∷ 0x84 ∷ []
+unfolding lastAnswer ran heardBy listening ones levels asking again sees reads
+check-at-once = refl
+
+pub request-before-check : sees (heardBy (Write 0x19 0x3A ∷ Write 0x1B 0x1A ∷ []) (take 43 (slots (framed 11 (0xA5 ∷ []))) ++ (flipped (take 2 (drop 43 (slots (framed 11 (0xA5 ∷ []))))) ++ drop 45 (slots (framed 11 (0xA5 ∷ [])))))) (0x07 ∷ []) ≡ 0x02 ∷ []
+unfolding lastAnswer ran heardBy listening ones levels framed flipped sees reads
+request-before-check = refl
+
+pub nibble-67 : sees (heardBy [] (take 30 (slots (framed 8 [])) ++ take 315 (lineCode (byteBits (replicate 32 0xA5))))) (0x04 ∷ 0x07 ∷ []) ≡ 0x01 ∷ 0x00 ∷ []
+unfolding lastAnswer ran heardBy listening ones levels framed sees reads lineCode byteBits bits
+nibble-67 = refl
+
+pub nibble-68 : sees (heardBy [] (take 30 (slots (framed 8 [])) ++ take 320 (lineCode (byteBits (replicate 32 0xA5))))) (0x04 ∷ 0x07 ∷ 0x09 ∷ 0x1B ∷ []) ≡ 0x00 ∷ 0x02 ∷ 0x84 ∷ 0x1C ∷ []
+unfolding lastAnswer ran heardBy listening ones levels framed sees reads lineCode byteBits bits
+nibble-68 = refl
+
+-- after GRES: every register, and three bytes of channel 0
+pub reset-values : sees (Write 0x00 0xFB ∷ Write 0x02 0xFF ∷ Write 0x01 0xF3 ∷ Write 0x0A 0x1F ∷ Write 0x13 0x1F ∷ Write 0x14 0x55 ∷ Write 0x15 0x55 ∷ Write 0x03 0x80 ∷ []) (0x00 ∷ 0x01 ∷ 0x02 ∷ 0x04 ∷ 0x05 ∷ 0x06 ∷ 0x07 ∷ 0x09 ∷ 0x0A ∷ 0x13 ∷ 0x14 ∷ 0x15 ∷ []) ≡ 0x00 ∷ 0x02 ∷ 0x00 ∷ 0x20 ∷ 0x00 ∷ 0x00 ∷ 0x00 ∷ 0x80 ∷ 0x80 ∷ 0x1F ∷ 0x55 ∷ 0x55 ∷ []
+unfolding lastAnswer ran sees reads
+reset-values = refl
+
+-- reserved bits are kept as written, and +4 and +5 too; from 0x10 on every read and write is accepted
+pub kept-as-written : refuses [] (Write 0x00 0x04 ∷ Write 0x0A 0x60 ∷ Write 0x0B 0x60 ∷ Write 0x14 0x01 ∷ Write 0x15 0x01 ∷ Write 0x17 0x01 ∷ []) ≡ replicate 6 0
+unfolding lastAnswer ran refuses
+kept-as-written = refl
+
+pub every-read : refuses [] (readsFrom 240 0x10) ≡ replicate 240 0
+unfolding lastAnswer ran refuses readsFrom
+every-read = refl
+
+pub every-write : refuses [] (writesFrom 240 0x10 0xFF) ≡ replicate 240 0
+unfolding lastAnswer ran refuses writesFrom
+every-write = refl
+
+-- a state out of its range is refused with 6; the largest values
+pub out-of-range : lastAnswer (record { refused = 0; value = 0; next = beyond }) (Read 0x04 ∷ []) .refused ≡ 6
+unfolding lastAnswer beyond
+out-of-range = refl
+
+pub largest-values : largestOf (ranges (fresh .core)) ≡ 15 ∷ 13 ∷ 15 ∷ 13 ∷ 32 ∷ 12 ∷ 9 ∷ 67 ∷ 15 ∷ 13 ∷ 127 ∷ 31 ∷ 13 ∷ 30 ∷ 15 ∷ 359 ∷ 15 ∷ []
+unfolding largestOf ranges size
+largest-values = refl
+
+-- Ma and Mb alone select the input; PC has no effect, and the receive inversion is for every input
+pub input-by-two-bits : pin (Write 0x02 0xFB ∷ (setUp ++ replicate 12 (Slot 2))) ≡ 0
+unfolding lastAnswer ran setUp pin
+input-by-two-bits = refl
+
+pub inverted-rxd1 : pin (Write 0x00 0x09 ∷ Write 0x02 0x08 ∷ (setUp ++ replicate 12 (Slot 5))) ≡ 0
+unfolding lastAnswer ran setUp pin
+inverted-rxd1 = refl
+
+-- M_L 31 sends thirty bytes; EXT, R/W and RTR are the channel's
+pub longest-sent-whole : sees (Write 0x10 0xF2 ∷ Write 0x11 0x38 ∷ Write 0x13 0xF8 ∷ Write 0x01 0x23 ∷ Write 0x03 0x10 ∷ (ones 12 ++ levels (slots (framed 8 (replicate 30 0))))) (0x09 ∷ 0x13 ∷ []) ≡ 0x88 ∷ 0xFA ∷ []
+unfolding lastAnswer ran framed ones levels sees reads
+longest-sent-whole = refl
+
+pub ext-0-sent : pin (Write 0x10 0xF2 ∷ Write 0x11 0x30 ∷ Write 0x13 0x08 ∷ Write 0x01 0x23 ∷ Write 0x03 0x10 ∷ (ones 12 ++ levels (take 25 (slots (framed 0 []))))) ≡ 0
+unfolding lastAnswer ran framed ones levels pin
+ext-0-sent = refl
+
+pub rw-sent : pin (Write 0x10 0xF2 ∷ Write 0x11 0x3A ∷ Write 0x13 0x09 ∷ Write 0x01 0x23 ∷ Write 0x03 0x10 ∷ (ones 12 ++ levels (take 27 (slots (framed 10 []))))) ≡ 1
+unfolding lastAnswer ran framed ones levels pin
+rw-sent = refl
+
+-- CV where a dominant level is sampled recessive: identifier, data, check
+pub own-identifier-unseen : sees (sendingData ++ (ones 12 ++ (levels (take 14 (slots asking)) ++ ones 1))) (0x05 ∷ 0x07 ∷ []) ≡ 0x10 ∷ 0x02 ∷ []
+unfolding lastAnswer ran asking sendingData ones levels sees reads
+own-identifier-unseen = refl
+
+pub own-data-unseen : sees (sendingData ++ (ones 12 ++ (levels (take 31 (slots asking)) ++ ones 1))) (0x05 ∷ 0x07 ∷ []) ≡ 0x10 ∷ 0x02 ∷ []
+unfolding lastAnswer ran asking sendingData ones levels sees reads
+own-data-unseen = refl
+
+pub own-check-unseen : sees (sendingData ++ (ones 12 ++ (levels (take 50 (slots asking)) ++ ones 1))) (0x05 ∷ 0x07 ∷ []) ≡ 0x10 ∷ 0x02 ∷ []
+unfolding lastAnswer ran asking sendingData ones levels sees reads
+own-check-unseen = refl
 
 pub courses : Courses
 courses =
@@ -531,4 +666,34 @@ courses =
       own-acknowledge-spoilt = own-acknowledge-spoilt;
       linked-data-sent = linked-data-sent;
       no-channel-14 = no-channel-14;
+      cher-listens = cher-listens;
+      channel-ext-0 = channel-ext-0;
+      no-reply-taken = no-reply-taken;
+      types-sent = types-sent;
+      types-of-data = types-of-data;
+      types-of-requests = types-of-requests;
+      link-high-bits = link-high-bits;
+      linked-drak = linked-drak;
+      link-to-link = link-to-link;
+      still-acknowledges = still-acknowledges;
+      first-slot-dominant = first-slot-dominant;
+      acknowledge-unseen = acknowledge-unseen;
+      check-at-once = check-at-once;
+      request-before-check = request-before-check;
+      nibble-67 = nibble-67;
+      nibble-68 = nibble-68;
+      reset-values = reset-values;
+      kept-as-written = kept-as-written;
+      every-read = every-read;
+      every-write = every-write;
+      out-of-range = out-of-range;
+      largest-values = largest-values;
+      input-by-two-bits = input-by-two-bits;
+      inverted-rxd1 = inverted-rxd1;
+      longest-sent-whole = longest-sent-whole;
+      ext-0-sent = ext-0-sent;
+      rw-sent = rw-sent;
+      own-identifier-unseen = own-identifier-unseen;
+      own-data-unseen = own-data-unseen;
+      own-check-unseen = own-check-unseen;
     }

@@ -1,5 +1,5 @@
 -- After a reset a host reads the reset values: those of the memory map as they were written, the others from the state.
-use Prim.Native.Nat.{ℕ, _<_}
+use Prim.Native.Nat.{ℕ, _≤_, _<_}
 use mathlib.Core.List.{List}
 use mathlib.Core.Path.{_≡_, refl, _∙_}
 use native.Mathlib.Omega.{arith}
@@ -51,3 +51,10 @@ module _ (m : List ℕ) (long : length m ≡ 256) where
 pub reset-read : (c : Controller) → length (c .memory) ≡ 256 → ReadsAs (resetAll c) resetValues
 unfolding resetValues resetAll resetMemory rowsWritten byteRead readOnly statusRead lineStatusOf lineStatus retriesByte interruptStatus bit isAsleep isIdle inMode serving inService isServing atStage underWay isUnderWay atPlace resetCore resetReport resting quiet
 reset-read c h = (at-0 (c .memory) h, (at-1 (c .memory) h, (at-2 (c .memory) h, (refl, (refl, (refl, (refl, (refl, (at-10 (c .memory) h, tt)))))))))
+
+-- channels and mailbox stay
+pub reset-leaves : (m : List ℕ) (a : ℕ) → 0x10 ≤ a → getD (resetMemory m) a 0 ≡ getD m a 0
+unfolding resetMemory rowsWritten resetValues readOnly
+reset-leaves m a h =
+    getD-set-other (set (set (set m 0 0x00) 1 0x02) 2 0x00) 10 a 0x80 0 (λ e. omega arith) ∙ getD-set-other (set (set m 0 0x00) 1 0x02) 2 a 0x00 0 (λ e. omega arith)
+    ∙ getD-set-other (set m 0 0x00) 1 a 0x02 0 (λ e. omega arith) ∙ getD-set-other m 0 a 0x00 0 (λ e. omega arith)

@@ -23,7 +23,7 @@ use Rattle.rules.specs.Definitions.Service.{resting, stopped, settled, m
 use Rattle.rules.specs.Definitions.State.{isActive, isAsleep, isIdle, serving, resetCore, idled, idleDue, slept}
 use Rattle.rules.specs.Definitions.Slots.{roleIn, heard, delivers, serviceJudged, ending, reportAfter, memoryJudged, coreJudged, chooses, choiceMade, startMade, followsOn, drives, sampleOf, judgedSlot, sampledSlot, activeSlot}
 use Rattle.rules.specs.Definitions.Host.{resetAll, resets, sleeps, modeCommanded, keptByte, flagsCleared, coreWritten, serviceAsked, stoppedCore, byteWritten, hostWritten, lineStatusOf, statusRead, byteRead, accessRefusals, readRefusals}
-use Rattle.rules.specs.Definitions.Run.{fresh, accept, hostRead, answered, restedSlot, step, next}
+use Rattle.rules.specs.Definitions.Run.{fresh, accept, hostRead, answered, restedSlot, step, next, refuse}
 use Rattle.rules.specs.Statements.Tally.{Stand, away, between, opening, inside, Tally, none, withStand, withAbort, withRear, countedIn, countedT, endedT, chosenT, choiceT, chooseIn, chooseT, startIn, startT, askedIn, askedT, asks, isAway}
 use Rattle.rules.specs.Statements.Observer.{freeO, Observer, atReset, hearsO, sampledO, idleO, goesOnO, accepted, nextO}
 use Rattle.rules.specs.Statements.Sending.{levelO, Agrees}
@@ -61,6 +61,7 @@ use Rattle.rules.specs.declared.Ending.the-variants.{Going, Sent, Exhaus
 use Rattle.rules.specs.declared.Role.{Role}
 use Rattle.rules.specs.declared.Role.the-variants.{Nobody, Receiver, Sender}
 use Rattle.rules.specs.declared.Core.{Core}
+use Rattle.rules.specs.declared.Refusal.{Refusal}
 use Rattle.rules.specs.declared.Controller.{Controller}
 use Rattle.rules.specs.declared.Answer.{Answer}
 use Rattle.rules.specs.declared.Event.{Event}
@@ -752,11 +753,19 @@ module _ (c : Controller) (o : Observer) (e : Event) (value : Answers c o e) (he
         rnok = rw (n, y);
       }
 
-no-value : (c : Controller) (o : Observer) (e : Event) → accepted c e ≡ false → Answers c o e
-no-value c o Reset y = tt
-no-value c o (Write a v) y = tt
-no-value c o (Read a) y = λ h. absurd (false≢true (sym y ∙ h))
-no-value c o (Slot l) y = λ h. absurd (false≢true (sym y ∙ h))
+refused-value : (c : Controller) (e : Event) (why : Refusal) → step c e ≡ refuse c why → step c e .value ≡ 0
+unfolding refuse
+refused-value c e why h = rw h
+
+accepted-value : (c d : Controller) (e : Event) → step c e ≡ accept 0 d → step c e .value ≡ 0
+unfolding accept
+accepted-value c d e h = rw h
+
+no-value : (c : Controller) (o : Observer) (e : Event) → step c e .value ≡ 0 → accepted c e ≡ false → Answers c o e
+no-value c o Reset z y = z
+no-value c o (Write a v) z y = z
+no-value c o (Read a) z y = λ h. absurd (false≢true (sym y ∙ h))
+no-value c o (Slot l) z y = λ h. absurd (false≢true (sym y ∙ h))
 
 -- ---- a host read
 
@@ -854,11 +863,11 @@ module _ (c : Controller) (o : Observer) (s : Same c o) (f : Fine c) where
       settles-taken c o (Slot l) (rest-value l a h) (heard-so c o s (Slot l)) c (accepted-next c (o .tally) (Slot l) k c i) (accepted-so c (o .tally) (Slot l) k c i) (rest-leaves c o l (sym (active-is c o s f) ∙ a))
 
   settles : (e : Event) → Step c e → Settles c o e
-  settles e (refusal n h) = let y = refused-not c (o .tally) e n h in settles-refused c o e (no-value c o e y) (heard-so c o s e) (refused-next c (o .tally) e n h) y
-  settles Reset (reset h) = settles-taken c o Reset tt tt (resetAll c) (accepted-next c (o .tally) Reset 0 (resetAll c) h) (accepted-so c (o .tally) Reset 0 (resetAll c) h) (reset-leaves c o)
+  settles e (refusal n h) = let y = refused-not c (o .tally) e n h in settles-refused c o e (no-value c o e (refused-value c e n h) y) (heard-so c o s e) (refused-next c (o .tally) e n h) y
+  settles Reset (reset h) = settles-taken c o Reset (accepted-value c (resetAll c) Reset h) tt (resetAll c) (accepted-next c (o .tally) Reset 0 (resetAll c) h) (accepted-so c (o .tally) Reset 0 (resetAll c) h) (reset-leaves c o)
   settles (Write a v) (wrote h) =
       let d : Controller = hostWritten c a (v % 256) in
-      settles-taken c o (Write a v) tt tt d (accepted-next c (o .tally) (Write a v) 0 d h) (accepted-so c (o .tally) (Write a v) 0 d h) (wrote-leaves c o s a v)
+      settles-taken c o (Write a v) (accepted-value c d (Write a v) h) tt d (accepted-next c (o .tally) (Write a v) 0 d h) (accepted-so c (o .tally) (Write a v) 0 d h) (wrote-leaves c o s a v)
   settles (Read a) (gave value h) = settles-taken c o (Read a) (read-value a) tt c (accepted-next c (o .tally) (Read a) value c h) (accepted-so c (o .tally) (Read a) value c h) (read-leaves c o a)
   settles (Slot l) (went a h) = went-settles l a h
   settles (Slot l) (rested a h) = rested-settles l a h

@@ -22,13 +22,14 @@ use Rattle.rules.specs.declared.Delivery.the-variants.{Nothing, Stored, 
 unfoldable pub delivered : Reception → Delivery
 delivered r = pick (fits (r .winner) (dataCount (r .nibbles))) Stored Overflowed
 
--- "CHER and RE only once a channel has matched"
+-- to the channel that has matched
 unfoldable pub deliveryTo : Hearing → Reception → Delivery
 deliveryTo Silent r = Nothing
 deliveryTo Follows r = Nothing
 deliveryTo (Fault code) r = Spoiled
 deliveryTo Good r = delivered r
 
+-- "CHER and RE only once a channel has matched"
 unfoldable pub deliveryOf : Hearing → Reception → Delivery
 deliveryOf h r = pick (r .winner .matched) (deliveryTo h r) Nothing
 

@@ -225,7 +225,7 @@ asserted f enable = not (eqb (bitAnd (interruptStatus f) enable) 0)
 unfoldable pub inputLevel : ℕ → ℕ → ℕ
 inputLevel levels input = pick (eqb input 1) (levels / 2 % 2) (pick (eqb input 2) (levels / 4 % 2) (levels % 2))
 
--- a level is 0 or 1; `% 2` takes any other number for one
+-- a level is 0 or 1; `% 2` is there only to keep the difference from going below 0
 unfoldable pub inverted : ℕ → Bool → ℕ
 inverted level inverts = pick inverts (1 - level % 2) level
 

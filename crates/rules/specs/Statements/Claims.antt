@@ -4,11 +4,13 @@ use mathlib.Core.Bool.{Bool, true, false}
 use mathlib.Core.List.{List, [], _∷_, _++_}
 use mathlib.Core.Path.{_≡_}
 use lib.ListN.{getD, length, take, drop, replicate}
-use Rattle.line.specs.Frame.{slots}
-use Rattle.rules.specs.Definitions.Registers.{resetValues}
-use Rattle.rules.specs.Definitions.Channels.{matches, lowest}
+use Rattle.line.specs.LineCode.{lineCode}
+use Rattle.line.specs.Frame.{byteBits, slots}
+use Rattle.rules.specs.Definitions.Registers.{either, resetValues}
+use Rattle.rules.specs.Definitions.Channels.{receiveMessage, requestDetection, transmitMessage, deferredReply, matches, lowest}
+use Rattle.rules.specs.Definitions.Mailbox.{resetMemory}
 use Rattle.rules.specs.Statements.Bits.{bitAt}
-use Rattle.rules.specs.Definitions.State.{inRange}
+use Rattle.rules.specs.Definitions.State.{ranges, inRange}
 use Rattle.rules.specs.Definitions.Slots.{drives}
 use Rattle.rules.specs.Definitions.Host.{resetAll, byteRead, lineStatusOf}
 use Rattle.rules.specs.Definitions.Run.{fresh, step, after}
@@ -16,7 +18,7 @@ use Rattle.rules.specs.Statements.Observer.{atReset}
 use Rattle.rules.specs.Statements.Sending.{SendingOver}
 use Rattle.rules.specs.Statements.Settled.{SettledOver}
 use Rattle.rules.specs.Statements.Receiving.{noLog, ReceivingOver}
-use Rattle.rules.specs.Statements.Runs.{Counts, seenOver, setUp, ones, levels, sent, echoed, overdriven, ran, listening, asking, Stored, sees, pin, again, sendingData, failures, overdrivenAt, refuses, readsFrom, writesFrom, framed, heardBy, offered}
+use Rattle.rules.specs.Statements.Runs.{Counts, seenOver, setUp, ones, levels, sent, echoed, overdriven, ran, listening, asking, Stored, lastAnswer, sees, pin, again, sendingData, failures, overdrivenAt, refuses, readsFrom, writesFrom, framed, heardBy, offered, types, flipped, beyond, largestOf}
 use Rattle.rules.specs.declared.Choice.the-variants.{Lowest}
 use Rattle.rules.specs.declared.Mode.the-variants.{Active}
 use Rattle.rules.specs.declared.Controller.{Controller}
@@ -35,9 +37,11 @@ abbrev pub ReadsAs : Controller → List (ℕ × ℕ) → Type 0
 ReadsAs c [] = Unit {0}
 ReadsAs c (row ∷ rows) = (byteRead c (row .0) ≡ row .1) × ReadsAs c rows
 
--- "Each control register has a name, an address and a reset value that belong to it": a host reads it after a reset, by pin or GRES
+-- "Each control register has a name, an address and a reset value that belong to it": what a host reads of the state that a reset leaves
 pub record Resets : Type 0 where
   pub reads : (c : Controller) → length (c .memory) ≡ 256 → ReadsAs (resetAll c) resetValues
+  -- "leaves both" channels and mailbox
+  pub leaves : (m : List ℕ) (a : ℕ) → 0x10 ≤ a → getD (resetMemory m) a 0 ≡ getD m a 0
 
 pub record Matching : Type 0 where
   -- "A frame matches when every tag bit under a mask one equals the identifier's": then, and only then
@@ -189,3 +193,44 @@ pub record Courses : Type 0 where
   pub linked-data-sent : pin (Write 0x10 0xF2 ∷ Write 0x11 0x38 ∷ Write 0x12 0x0D ∷ Write 0x7A 0x20 ∷ Write 0x7B 0x12 ∷ Write 0xA1 0xA5 ∷ Write 0x01 0x23 ∷ Write 0x03 0x10 ∷ (ones 12 ++ levels (take 30 (slots (framed 8 (0xA5 ∷ [])))))) ≡ 1
   -- channel 1, linked to channel 14, does not send: channel 2 does
   pub no-channel-14 : sees (Write 0x13 0x0A ∷ Write 0x1A 0x0E ∷ Write 0x03 0x10 ∷ Slot 1 ∷ []) (0x04 ∷ 0x05 ∷ []) ≡ 0x02 ∷ 0x02 ∷ []
+  -- a channel with CHER 1 listens, and CHER stays; so does one with EXT 0; 1,1,0,0 takes no frame with R/W 1 and RTR 0
+  pub cher-listens : sees (heardBy (Write 0x1B 0x1C ∷ []) (slots (framed 8 []))) (0x09 ∷ 0x1B ∷ []) ≡ 0x81 ∷ 0x1D ∷ []
+  pub channel-ext-0 : sees (heardBy (Write 0x19 0x31 ∷ []) (slots (framed 8 []))) (0x09 ∷ 0x19 ∷ 0x1B ∷ []) ≡ 0x81 ∷ 0x31 ∷ 0x19 ∷ []
+  pub no-reply-taken : sees (heardBy (Write 0x19 0x3B ∷ []) (slots (framed 10 []))) (0x09 ∷ 0x1B ∷ []) ≡ 0x80 ∷ 0x18 ∷ []
+  -- message types, for RNW, RTR, CHTx, CHRx of 0 to 15: sent, takes data, takes requests
+  pub types-sent : types (λ b. either (transmitMessage b) (deferredReply b)) ≡ 1 ∷ 1 ∷ 0 ∷ 0 ∷ 0 ∷ 0 ∷ 0 ∷ 0 ∷ 0 ∷ 1 ∷ 0 ∷ 0 ∷ 0 ∷ 0 ∷ 0 ∷ 0 ∷ []
+  pub types-of-data : types receiveMessage ≡ 0 ∷ 0 ∷ 0 ∷ 0 ∷ 1 ∷ 0 ∷ 1 ∷ 0 ∷ 0 ∷ 0 ∷ 0 ∷ 0 ∷ 0 ∷ 0 ∷ 0 ∷ 0 ∷ []
+  pub types-of-requests : types requestDetection ≡ 0 ∷ 0 ∷ 0 ∷ 0 ∷ 0 ∷ 0 ∷ 0 ∷ 0 ∷ 0 ∷ 0 ∷ 1 ∷ 0 ∷ 0 ∷ 0 ∷ 0 ∷ 0 ∷ []
+  -- a link is four bits of the pointer; DRAK is that of channel 1; a link to a link takes nothing
+  pub link-high-bits : sees (heardBy (Write 0x1A 0x1D ∷ Write 0x1B 0x00 ∷ Write 0x7A 0xA0 ∷ Write 0x7B 0x1A ∷ []) (slots asking)) (0x09 ∷ 0x1B ∷ 0xA0 ∷ []) ≡ 0x82 ∷ 0x01 ∷ 0x82 ∷ []
+  pub linked-drak : pin (heardBy (Write 0x1A 0x1D ∷ Write 0x1B 0x00 ∷ Write 0x7A 0xA0 ∷ Write 0x7B 0x1A ∷ []) (take 71 (slots asking))) ≡ 0
+  pub link-to-link : sees (heardBy (Write 0x1A 0x0D ∷ Write 0x1B 0x00 ∷ Write 0x7A 0x0C ∷ Write 0x7B 0x02 ∷ Write 0x72 0x20 ∷ Write 0x73 0x1A ∷ []) (slots asking)) (0x09 ∷ 0x1B ∷ []) ≡ 0x80 ∷ 0x00 ∷ []
+  -- a dominant first acknowledge slot is judged in the second; FV there, and where the model drove 10 and 11 is sampled
+  pub still-acknowledges : pin (heardBy [] (take 70 (slots asking) ++ (0 ∷ []))) ≡ 0
+  pub first-slot-dominant : sees (heardBy [] (take 70 (slots asking) ++ (0 ∷ 0 ∷ []))) (0x07 ∷ 0x09 ∷ 0x1B ∷ []) ≡ 0x01 ∷ 0x84 ∷ 0x1C ∷ []
+  pub acknowledge-unseen : sees (heardBy [] (take 70 (slots asking) ++ (1 ∷ 1 ∷ []))) (0x07 ∷ 0x09 ∷ 0x1B ∷ []) ≡ 0x01 ∷ 0x84 ∷ 0x1C ∷ []
+  -- the check is judged in the pair 00, after the length; a reply request with data is CV even where its check is wrong; the 68th nibble is CV
+  pub check-at-once : sees (heardBy [] (take 40 (slots asking) ++ take 30 (drop 40 (slots again)))) (0x04 ∷ 0x07 ∷ 0x09 ∷ []) ≡ 0x00 ∷ 0x08 ∷ 0x84 ∷ []
+  pub request-before-check : sees (heardBy (Write 0x19 0x3A ∷ Write 0x1B 0x1A ∷ []) (take 43 (slots (framed 11 (0xA5 ∷ []))) ++ (flipped (take 2 (drop 43 (slots (framed 11 (0xA5 ∷ []))))) ++ drop 45 (slots (framed 11 (0xA5 ∷ [])))))) (0x07 ∷ []) ≡ 0x02 ∷ []
+  pub nibble-67 : sees (heardBy [] (take 30 (slots (framed 8 [])) ++ take 315 (lineCode (byteBits (replicate 32 0xA5))))) (0x04 ∷ 0x07 ∷ []) ≡ 0x01 ∷ 0x00 ∷ []
+  pub nibble-68 : sees (heardBy [] (take 30 (slots (framed 8 [])) ++ take 320 (lineCode (byteBits (replicate 32 0xA5))))) (0x04 ∷ 0x07 ∷ 0x09 ∷ 0x1B ∷ []) ≡ 0x00 ∷ 0x02 ∷ 0x84 ∷ 0x1C ∷ []
+  -- after GRES: every register, and three bytes of channel 0
+  pub reset-values : sees (Write 0x00 0xFB ∷ Write 0x02 0xFF ∷ Write 0x01 0xF3 ∷ Write 0x0A 0x1F ∷ Write 0x13 0x1F ∷ Write 0x14 0x55 ∷ Write 0x15 0x55 ∷ Write 0x03 0x80 ∷ []) (0x00 ∷ 0x01 ∷ 0x02 ∷ 0x04 ∷ 0x05 ∷ 0x06 ∷ 0x07 ∷ 0x09 ∷ 0x0A ∷ 0x13 ∷ 0x14 ∷ 0x15 ∷ []) ≡ 0x00 ∷ 0x02 ∷ 0x00 ∷ 0x20 ∷ 0x00 ∷ 0x00 ∷ 0x00 ∷ 0x80 ∷ 0x80 ∷ 0x1F ∷ 0x55 ∷ 0x55 ∷ []
+  -- reserved bits are kept as written, and +4 and +5 too; from 0x10 on every read and write is accepted
+  pub kept-as-written : refuses [] (Write 0x00 0x04 ∷ Write 0x0A 0x60 ∷ Write 0x0B 0x60 ∷ Write 0x14 0x01 ∷ Write 0x15 0x01 ∷ Write 0x17 0x01 ∷ []) ≡ replicate 6 0
+  pub every-read : refuses [] (readsFrom 240 0x10) ≡ replicate 240 0
+  pub every-write : refuses [] (writesFrom 240 0x10 0xFF) ≡ replicate 240 0
+  -- a state out of its range is refused with 6; the largest values
+  pub out-of-range : lastAnswer (record { refused = 0; value = 0; next = beyond }) (Read 0x04 ∷ []) .refused ≡ 6
+  pub largest-values : largestOf (ranges (fresh .core)) ≡ 15 ∷ 13 ∷ 15 ∷ 13 ∷ 32 ∷ 12 ∷ 9 ∷ 67 ∷ 15 ∷ 13 ∷ 127 ∷ 31 ∷ 13 ∷ 30 ∷ 15 ∷ 359 ∷ 15 ∷ []
+  -- Ma and Mb alone select the input; PC has no effect, and the receive inversion is for every input
+  pub input-by-two-bits : pin (Write 0x02 0xFB ∷ (setUp ++ replicate 12 (Slot 2))) ≡ 0
+  pub inverted-rxd1 : pin (Write 0x00 0x09 ∷ Write 0x02 0x08 ∷ (setUp ++ replicate 12 (Slot 5))) ≡ 0
+  -- M_L 31 sends thirty bytes; EXT, R/W and RTR are the channel's
+  pub longest-sent-whole : sees (Write 0x10 0xF2 ∷ Write 0x11 0x38 ∷ Write 0x13 0xF8 ∷ Write 0x01 0x23 ∷ Write 0x03 0x10 ∷ (ones 12 ++ levels (slots (framed 8 (replicate 30 0))))) (0x09 ∷ 0x13 ∷ []) ≡ 0x88 ∷ 0xFA ∷ []
+  pub ext-0-sent : pin (Write 0x10 0xF2 ∷ Write 0x11 0x30 ∷ Write 0x13 0x08 ∷ Write 0x01 0x23 ∷ Write 0x03 0x10 ∷ (ones 12 ++ levels (take 25 (slots (framed 0 []))))) ≡ 0
+  pub rw-sent : pin (Write 0x10 0xF2 ∷ Write 0x11 0x3A ∷ Write 0x13 0x09 ∷ Write 0x01 0x23 ∷ Write 0x03 0x10 ∷ (ones 12 ++ levels (take 27 (slots (framed 10 []))))) ≡ 1
+  -- CV where a dominant level is sampled recessive: identifier, data, check
+  pub own-identifier-unseen : sees (sendingData ++ (ones 12 ++ (levels (take 14 (slots asking)) ++ ones 1))) (0x05 ∷ 0x07 ∷ []) ≡ 0x10 ∷ 0x02 ∷ []
+  pub own-data-unseen : sees (sendingData ++ (ones 12 ++ (levels (take 31 (slots asking)) ++ ones 1))) (0x05 ∷ 0x07 ∷ []) ≡ 0x10 ∷ 0x02 ∷ []
+  pub own-check-unseen : sees (sendingData ++ (ones 12 ++ (levels (take 50 (slots asking)) ++ ones 1))) (0x05 ∷ 0x07 ∷ []) ≡ 0x10 ∷ 0x02 ∷ []

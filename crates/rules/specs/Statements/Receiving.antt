@@ -70,7 +70,7 @@ logIn c l (Write address value) = l
 logIn c l (Read address) = l
 logIn c l (Slot levels) = pick (isActive (c .core .activity .mode)) (sampledLog l (sampleOf c levels) (next c (Slot levels) .memory)) l
 
--- a refused event adds nothing; no log outlives its frame
+-- a refused event adds nothing; no log outlives the controller's frame under way, which is the observer's (`agrees` in Sending.antt)
 unfoldable pub logNext : Controller → Log → Event → Log
 logNext c l e = pick (underWay (next c e .core .reception .place)) (pick (accepted c e) (logIn c l e) l) noLog
 

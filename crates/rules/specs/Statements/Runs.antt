@@ -23,12 +23,14 @@ use Rattle.rules.specs.Definitions.Host as rhost
 use Rattle.rules.specs.Definitions.Run as rrun
 use Rattle.rules.specs.Statements.Tally as rtally
 use Rattle.rules.specs.Statements.Observer as robserver
-use Prim.Native.Nat.{ℕ, zero, suc}
-use mathlib.Core.Bool.{true, false}
+use Prim.Native.Nat.{ℕ, zero, suc, _-_}
+use mathlib.Core.Bool.{Bool, true, false}
 use mathlib.Core.List.{List, [], _∷_, _++_}
 use mathlib.Core.Path.{_≡_}
 use lib.ListN.{getD, replicate, take}
 use Rattle.line.specs.Frame.{Frame, slots}
+use Rattle.rules.specs.Definitions.Setters.{withLine}
+use Rattle.rules.specs.Definitions.Registers.{bit}
 use Rattle.rules.specs.Definitions.Run.{fresh, step, next}
 use Rattle.rules.specs.Statements.Tally.{Tally, none}
 use Rattle.rules.specs.Statements.Observer.{Observer, seenO, nextO}
@@ -79,9 +81,12 @@ unfoldable pub ran : Controller → List Event → Controller
 ran c es = lastAnswer (record { refused = 0; value = 0; next = c }) es .next
 
 -- from a fresh controller: what a host then reads at some addresses, and the level that the last slot answered
+unfoldable pub reads : Controller → List ℕ → List ℕ
+reads c [] = []
+reads c (a ∷ addresses) = lastAnswer (record { refused = 0; value = 0; next = c }) (Read a ∷ []) .value ∷ reads c addresses
+
 unfoldable pub sees : List Event → List ℕ → List ℕ
-sees es [] = []
-sees es (a ∷ addresses) = lastAnswer (record { refused = 0; value = 0; next = ran fresh es }) (Read a ∷ []) .value ∷ sees es addresses
+sees es addresses = reads (ran fresh es) addresses
 
 unfoldable pub pin : List Event → ℕ
 pin es = lastAnswer (record { refused = 0; value = 0; next = fresh }) es .value
@@ -141,3 +146,24 @@ heardBy writes vs = listening ++ (writes ++ (ones 12 ++ levels vs))
 -- channel 0 with a command byte and a status byte; active, one slot
 unfoldable pub offered : ℕ → ℕ → List Event
 offered low status = Write 0x11 low ∷ Write 0x13 status ∷ Write 0x03 0x10 ∷ Slot 1 ∷ []
+
+-- whether each of the values 0 to 15 of RNW, RTR, CHTx and CHRx is of a type
+unfoldable pub typesFrom : (ℕ → Bool) → ℕ → ℕ → List ℕ
+typesFrom is zero bits = []
+typesFrom is (suc n) bits = bit (is bits) ∷ typesFrom is n (suc bits)
+
+unfoldable pub types : (ℕ → Bool) → List ℕ
+types is = typesFrom is 16 0
+
+-- opposite levels
+unfoldable pub flipped : List ℕ → List ℕ
+flipped [] = []
+flipped (v ∷ vs) = (1 - v) ∷ flipped vs
+
+-- a state that no run reaches: thirteen recessive slots counted
+unfoldable pub beyond : Controller
+beyond = record { memory = fresh .memory; core = withLine (fresh .core) (record { good = false; count = 13 }) }
+
+unfoldable pub largestOf : List (ℕ × ℕ) → List ℕ
+largestOf [] = []
+largestOf (r ∷ rs) = r .1 ∷ largestOf rs

@@ -82,7 +82,7 @@ Drives between f d = Unit {0}
 Drives (opening start) f d = Origin start × Opens (d ∷ []) (drop start (slots f))
 Drives (inside start levels) f d = Origin start × Opens (levels ++ (d ∷ [])) (drop start (slots f))
 
--- an accepted slot of an active controller is where an attempt goes on
+-- a slot is where an attempt goes on
 abbrev pub InSlot : Event → Type 0 → Type 0
 InSlot Reset A = Unit {0}
 InSlot (Write address value) A = Unit {0}

@@ -1,6 +1,6 @@
 -- What every event leaves: each byte of the memory map, each register that the controller writes, each status bit, and a slot's answer, from what stood before, the
 -- event and the observer (01, Memory map, Receiving, Sending).
---   sentAll, exhaustedIn, abortedIn == how a service ends        deliveredO == what another module's frame does
+--   sentAll, exhaustedIn, abortedIn == how a service ends        deliveredIn, deliveredMap == what another module's frame does
 --   memoryO, sendingO, messageO, errorO, flagO == a byte or register after an event        readO == what a host reads        Settles == the claim on an event
 --   SettledOver == the claim on a list of events, from a controller and an observer on
 use Prim.Native.Nat.{ℕ, _+_, _%_}
@@ -215,10 +215,10 @@ readO c o address =
     (pick (eqb address lastErrorStatus) (c .core .report .error)
     (pick (eqb address interruptStatusAt) (interruptStatus (c .core .report .flags)) (getD (c .memory) (address % 256) 0)))))
 
--- "the event's answer and listing give TXD after" the transmit inversion, "idle and asleep too"
+-- reset and write answer 0; of a slot "the event's answer and listing give TXD after" the transmit inversion, "idle and asleep too"
 abbrev pub Answers : Controller → Observer → Event → Type 0
-Answers c o Reset = Unit {0}
-Answers c o (Write address value) = Unit {0}
+Answers c o Reset = step c Reset .value ≡ 0
+Answers c o (Write address value) = step c (Write address value) .value ≡ 0
 Answers c o (Read address) = accepted c (Read address) ≡ true → step c (Read address) .value ≡ readO c o address
 Answers c o (Slot levels) =
     accepted c (Slot levels) ≡ true → step c (Slot levels) .value ≡ transmitted (getD (next c (Slot levels) .memory) lineControl 0) (levelO (nextO c o (Slot levels)))
