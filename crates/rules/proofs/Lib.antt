@@ -4,7 +4,6 @@ pub mod Resets
 pub mod Matching
 pub mod Steps
 pub mod Logic
-pub mod Samples
 pub mod Judged
 pub mod Roles
 pub mod Sending

@@ -1,5 +1,4 @@
-pub mod Replies
-pub mod Flags
 pub mod Agreed
+pub mod Ends
 pub mod Settled
 pub mod EveryRun

@@ -8,5 +8,4 @@ pub mod InvariantLaws
 pub mod OwnAttempt
 pub mod Log
 pub mod LogSteps
-pub mod Answers
 pub mod EveryRun

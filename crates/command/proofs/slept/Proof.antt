@@ -8,5 +8,4 @@ slept-spec =
     tie.close (tie.spec
     (λ c κs. tt)
     (λ c κs. tt)
-    (λ c κs. tt)
-    (λ c. simp (← (c .no-reply .ensures), ← (c .before .resting .ensures), ← (c .before .before .quiet .ensures))))
+    (λ c. simp (← (c .resting .ensures), ← (c .before .quiet .ensures))))

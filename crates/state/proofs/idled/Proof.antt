@@ -8,5 +8,4 @@ idled-spec =
     tie.close (tie.spec
     (λ c κs. tt)
     (λ c κs. tt)
-    (λ c κs. tt)
-    (λ c. simp (← (c .no-reply .ensures), ← (c .before .quiet .ensures), ← (c .before .before .in-mode .ensures))))
+    (λ c. simp (← (c .quiet .ensures), ← (c .before .in-mode .ensures))))
