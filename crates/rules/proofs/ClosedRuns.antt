@@ -7,11 +7,12 @@ use lib.ListN.{getD, take, drop, replicate}
 use Rattle.line.specs.Bits.{bits}
 use Rattle.line.specs.LineCode.{lineCode}
 use Rattle.line.specs.Frame.{byteBits, slots, size}
-use Rattle.rules.specs.Definitions.Registers.{either, bit}
+use Rattle.rules.specs.Definitions.Registers.{either, bit, readOnly, resetValues}
+use Rattle.rules.specs.Definitions.Mailbox.{rowsWritten, resetMemory}
 use Rattle.rules.specs.Definitions.Channels.{receiveMessage, requestDetection, transmitMessage, deferredReply, lowest, matches}
 use Rattle.rules.specs.Definitions.State.{ranges}
 use Rattle.rules.specs.Definitions.Slots.{drives}
-use Rattle.rules.specs.Definitions.Host.{lineStatusOf}
+use Rattle.rules.specs.Definitions.Host.{lineStatusOf, resetAll}
 use Rattle.rules.specs.Definitions.Run.{fresh, step}
 use Rattle.rules.specs.Statements.Observer.{atReset}
 use Rattle.rules.specs.Statements.Claims.{Runs, Courses}
@@ -459,7 +460,7 @@ pub no-channel-14 : sees (Write 0x13 0x0A ∷ Write 0x1A 0x0E ∷ Write 0x03 0x1
 unfolding lastAnswer ran sees reads
 no-channel-14 = refl
 
--- a channel with CHER 1 listens, and CHER stays; so does one with EXT 0; 1,1,0,0 takes no frame with R/W 1 and RTR 0
+-- a channel with CHER 1 listens, and CHER stays; so does one with EXT 0; 1,1,-,0 takes no frame with R/W 1 and RTR 0
 pub cher-listens : sees (heardBy (Write 0x1B 0x1C ∷ []) (slots (framed 8 []))) (0x09 ∷ 0x1B ∷ []) ≡ 0x81 ∷ 0x1D ∷ []
 unfolding lastAnswer ran heardBy listening ones levels framed sees reads
 cher-listens = refl
@@ -471,6 +472,10 @@ channel-ext-0 = refl
 pub no-reply-taken : sees (heardBy (Write 0x19 0x3B ∷ []) (slots (framed 10 []))) (0x09 ∷ 0x1B ∷ []) ≡ 0x80 ∷ 0x18 ∷ []
 unfolding lastAnswer ran heardBy listening ones levels framed sees reads
 no-reply-taken = refl
+
+pub no-reply-awaited : sees (heardBy (Write 0x19 0x3B ∷ Write 0x1B 0x1A ∷ []) (slots (framed 10 []))) (0x09 ∷ 0x1B ∷ []) ≡ 0x80 ∷ 0x1A ∷ []
+unfolding lastAnswer ran heardBy listening ones levels framed sees reads
+no-reply-awaited = refl
 
 -- message types, for RNW, RTR, CHTx, CHRx of 0 to 15: sent, takes data, takes requests
 pub types-sent : types (λ b. either (transmitMessage b) (deferredReply b)) ≡ 1 ∷ 1 ∷ 0 ∷ 0 ∷ 0 ∷ 0 ∷ 0 ∷ 0 ∷ 0 ∷ 1 ∷ 0 ∷ 0 ∷ 0 ∷ 0 ∷ 0 ∷ 0 ∷ []
@@ -532,6 +537,11 @@ nibble-68 = refl
 pub reset-values : sees (Write 0x00 0xFB ∷ Write 0x02 0xFF ∷ Write 0x01 0xF3 ∷ Write 0x0A 0x1F ∷ Write 0x13 0x1F ∷ Write 0x14 0x55 ∷ Write 0x15 0x55 ∷ Write 0x03 0x80 ∷ []) (0x00 ∷ 0x01 ∷ 0x02 ∷ 0x04 ∷ 0x05 ∷ 0x06 ∷ 0x07 ∷ 0x09 ∷ 0x0A ∷ 0x13 ∷ 0x14 ∷ 0x15 ∷ []) ≡ 0x00 ∷ 0x02 ∷ 0x00 ∷ 0x20 ∷ 0x00 ∷ 0x00 ∷ 0x00 ∷ 0x80 ∷ 0x80 ∷ 0x1F ∷ 0x55 ∷ 0x55 ∷ []
 unfolding lastAnswer ran sees reads
 reset-values = refl
+
+-- a fresh controller has zero channels and mailbox
+pub fresh-zero : drop 0x10 (fresh .memory) ≡ replicate 240 0
+unfolding fresh resetAll resetMemory rowsWritten resetValues readOnly
+fresh-zero = refl
 
 -- reserved bits are kept as written, and +4 and +5 too; from 0x10 on every read and write is accepted
 pub kept-as-written : refuses [] (Write 0x00 0x04 ∷ Write 0x0A 0x60 ∷ Write 0x0B 0x60 ∷ Write 0x14 0x01 ∷ Write 0x15 0x01 ∷ Write 0x17 0x01 ∷ []) ≡ replicate 6 0
@@ -669,6 +679,7 @@ courses =
       cher-listens = cher-listens;
       channel-ext-0 = channel-ext-0;
       no-reply-taken = no-reply-taken;
+      no-reply-awaited = no-reply-awaited;
       types-sent = types-sent;
       types-of-data = types-of-data;
       types-of-requests = types-of-requests;
@@ -683,6 +694,7 @@ courses =
       nibble-67 = nibble-67;
       nibble-68 = nibble-68;
       reset-values = reset-values;
+      fresh-zero = fresh-zero;
       kept-as-written = kept-as-written;
       every-read = every-read;
       every-write = every-write;

@@ -193,10 +193,11 @@ pub record Courses : Type 0 where
   pub linked-data-sent : pin (Write 0x10 0xF2 ∷ Write 0x11 0x38 ∷ Write 0x12 0x0D ∷ Write 0x7A 0x20 ∷ Write 0x7B 0x12 ∷ Write 0xA1 0xA5 ∷ Write 0x01 0x23 ∷ Write 0x03 0x10 ∷ (ones 12 ++ levels (take 30 (slots (framed 8 (0xA5 ∷ [])))))) ≡ 1
   -- channel 1, linked to channel 14, does not send: channel 2 does
   pub no-channel-14 : sees (Write 0x13 0x0A ∷ Write 0x1A 0x0E ∷ Write 0x03 0x10 ∷ Slot 1 ∷ []) (0x04 ∷ 0x05 ∷ []) ≡ 0x02 ∷ 0x02 ∷ []
-  -- a channel with CHER 1 listens, and CHER stays; so does one with EXT 0; 1,1,0,0 takes no frame with R/W 1 and RTR 0
+  -- a channel with CHER 1 listens, and CHER stays; so does one with EXT 0; 1,1,-,0 takes no frame with R/W 1 and RTR 0
   pub cher-listens : sees (heardBy (Write 0x1B 0x1C ∷ []) (slots (framed 8 []))) (0x09 ∷ 0x1B ∷ []) ≡ 0x81 ∷ 0x1D ∷ []
   pub channel-ext-0 : sees (heardBy (Write 0x19 0x31 ∷ []) (slots (framed 8 []))) (0x09 ∷ 0x19 ∷ 0x1B ∷ []) ≡ 0x81 ∷ 0x31 ∷ 0x19 ∷ []
   pub no-reply-taken : sees (heardBy (Write 0x19 0x3B ∷ []) (slots (framed 10 []))) (0x09 ∷ 0x1B ∷ []) ≡ 0x80 ∷ 0x18 ∷ []
+  pub no-reply-awaited : sees (heardBy (Write 0x19 0x3B ∷ Write 0x1B 0x1A ∷ []) (slots (framed 10 []))) (0x09 ∷ 0x1B ∷ []) ≡ 0x80 ∷ 0x1A ∷ []
   -- message types, for RNW, RTR, CHTx, CHRx of 0 to 15: sent, takes data, takes requests
   pub types-sent : types (λ b. either (transmitMessage b) (deferredReply b)) ≡ 1 ∷ 1 ∷ 0 ∷ 0 ∷ 0 ∷ 0 ∷ 0 ∷ 0 ∷ 0 ∷ 1 ∷ 0 ∷ 0 ∷ 0 ∷ 0 ∷ 0 ∷ 0 ∷ []
   pub types-of-data : types receiveMessage ≡ 0 ∷ 0 ∷ 0 ∷ 0 ∷ 1 ∷ 0 ∷ 1 ∷ 0 ∷ 0 ∷ 0 ∷ 0 ∷ 0 ∷ 0 ∷ 0 ∷ 0 ∷ 0 ∷ []
@@ -216,6 +217,8 @@ pub record Courses : Type 0 where
   pub nibble-68 : sees (heardBy [] (take 30 (slots (framed 8 [])) ++ take 320 (lineCode (byteBits (replicate 32 0xA5))))) (0x04 ∷ 0x07 ∷ 0x09 ∷ 0x1B ∷ []) ≡ 0x00 ∷ 0x02 ∷ 0x84 ∷ 0x1C ∷ []
   -- after GRES: every register, and three bytes of channel 0
   pub reset-values : sees (Write 0x00 0xFB ∷ Write 0x02 0xFF ∷ Write 0x01 0xF3 ∷ Write 0x0A 0x1F ∷ Write 0x13 0x1F ∷ Write 0x14 0x55 ∷ Write 0x15 0x55 ∷ Write 0x03 0x80 ∷ []) (0x00 ∷ 0x01 ∷ 0x02 ∷ 0x04 ∷ 0x05 ∷ 0x06 ∷ 0x07 ∷ 0x09 ∷ 0x0A ∷ 0x13 ∷ 0x14 ∷ 0x15 ∷ []) ≡ 0x00 ∷ 0x02 ∷ 0x00 ∷ 0x20 ∷ 0x00 ∷ 0x00 ∷ 0x00 ∷ 0x80 ∷ 0x80 ∷ 0x1F ∷ 0x55 ∷ 0x55 ∷ []
+  -- a fresh controller has zero channels and mailbox
+  pub fresh-zero : drop 0x10 (fresh .memory) ≡ replicate 240 0
   -- reserved bits are kept as written, and +4 and +5 too; from 0x10 on every read and write is accepted
   pub kept-as-written : refuses [] (Write 0x00 0x04 ∷ Write 0x0A 0x60 ∷ Write 0x0B 0x60 ∷ Write 0x14 0x01 ∷ Write 0x15 0x01 ∷ Write 0x17 0x01 ∷ []) ≡ replicate 6 0
   pub every-read : refuses [] (readsFrom 240 0x10) ≡ replicate 240 0
