@@ -2,6 +2,7 @@
 ghost use mathlib.Core.Path.{_≡_};
 ghost use Prim.Native.Nat.{_+_, _<_};
 ghost use Rattle.rules.specs.Definitions.Attempt as rule;
+ghost use Rattle.rules.specs.Definitions.Service as service_rule;
 ghost use Rattle.rules.specs.Definitions.Setters as setter;
 ghost use Rattle.rules.specs.declared.Stage.the-variants as stages;
 ghost use Rattle.attempt.specs.Following as place;
@@ -11,7 +12,9 @@ use registers::Code;
 use rules::Attempts;
 use rules::Coded;
 use rules::Counters;
+use rules::Delivery;
 use rules::Effort;
+use rules::Hearing;
 use rules::Progress;
 use rules::Stage;
 use rules::Timeslots;
@@ -156,8 +159,18 @@ fn difference(n: u8, k: u16, d: u8) -> Verdict
     difference_in(p, false)
 }
 
-// What a sample in slot k of the fixed frame is for the attempt.
-fn judge_slot(x: Coded, k: u16, v: u8) -> Verdict
+// R/W 1 and RTR 1.
+pub fn is_request(x: Coded) -> bool
+    ensures { λ r. ⌜ r ≡ rule.isRequest x ⌝ }
+{
+    x.bytes[1] % 4 == 3
+}
+
+// RTR's first half.
+const RTR_SLOT: u16 = 28;
+
+// What a sample in slot k of a frame that the model sends is for it.
+pub fn judge_slot(x: Coded, k: u16, v: u8) -> Verdict
     ensures { λ r. ⌜ r ≡ rule.judgeSlot x k v ⌝ }
 {
     if v == due(x, k) {
@@ -166,19 +179,34 @@ fn judge_slot(x: Coded, k: u16, v: u8) -> Verdict
         }
         return Verdict::Done;
     }
+    if (k == RTR_SLOT) & (is_request(x)) {
+        return Verdict::Answered;
+    }
     difference(x.n, k, driver::level_at(x, k))
 }
 
-// The same, if an attempt is under way.
-fn judge(e: Effort, v: u8) -> Verdict
-    ensures { λ r. ⌜ r ≡ rule.judge e v ⌝ }
+// A good end, for an answered request: success where a channel stores the frame.
+fn good_for(d: Delivery) -> Verdict
+    ensures { λ r. ⌜ r ≡ service_rule.goodFor d ⌝ }
 {
-    let p = e.progress;
-    if stage::drives_frame(p) {
-        let x = e.frame;
-        return judge_slot(x, p.at, v);
+    match d {
+        Delivery::Nothing => Verdict::Failed(Code::CV),
+        Delivery::Stored => Verdict::Done,
+        Delivery::Overflowed => Verdict::Failed(Code::BOV),
+        Delivery::Spoiled => Verdict::Failed(Code::CV),
     }
-    Verdict::Unjudged
+}
+
+// What a sample of the frame that answers it is for an attempt.
+fn answered_as(h: Hearing, d: Delivery) -> Verdict
+    ensures { λ r. ⌜ r ≡ service_rule.answeredAs h d ⌝ }
+{
+    match h {
+        Hearing::Silent => Verdict::Answered,
+        Hearing::Follows => Verdict::Answered,
+        Hearing::Fault(code) => Verdict::Failed(code),
+        Hearing::Good => good_for(d),
+    }
 }
 
 // ---- what the attempt spends
@@ -251,18 +279,32 @@ fn advance(w: Verdict, e: Effort) -> Effort
         Verdict::Lost => waiting(e, lost_spent(c)),
         Verdict::Failed(_) => waiting(e, error_spent(c)),
         Verdict::Done => waiting(e, slot_spent(c)),
+        Verdict::Answered => with_progress(e, stage::at_stage(Stage::Receiving, 0), slot_spent(c)),
     }
 }
 
 // A slot of the attempt: what its sample is, and the effort after it.
 pub fn tried(e: Effort, v: u8) -> Trial
-    ensures verdict { λ r. ⌜ r .verdict ≡ rule.judge e v ⌝ }
-    ensures effort { λ r. ⌜ r .effort ≡ rule.advance (rule.judge e v) e ⌝ }
+    ensures verdict { λ r. ⌜ r .verdict ≡ rule.judgeSlot (e .frame) (e .progress .at) v ⌝ }
+    ensures effort { λ r. ⌜ r .effort ≡ rule.advance (rule.judgeSlot (e .frame) (e .progress .at) v) e ⌝ }
 {
-    let w = judge(e, v);
+    let x = e.frame;
+    let w = judge_slot(x, e.progress.at, v);
     Trial {
         verdict: w,
         effort: advance(w, e),
+    }
+}
+
+// A slot of an attempt that is answered: h and d are what its sample is for the line, and what it delivers.
+pub fn awaited(e: Effort, h: Hearing, d: Delivery) -> Trial
+    ensures verdict { λ r. ⌜ r .verdict ≡ service_rule.answeredAs h d ⌝ }
+    ensures effort { λ r. ⌜ r .effort ≡ rule.advance (service_rule.answeredAs h d) e ⌝ }
+{
+    let heard = answered_as(h, d);
+    Trial {
+        verdict: heard,
+        effort: advance(heard, e),
     }
 }
 

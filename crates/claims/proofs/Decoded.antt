@@ -1,6 +1,7 @@
 -- What is delivered is what the samples decode to, by the codec's own definition.
 use Prim.Native.Nat.{ℕ}
 use mathlib.Core.List.{List, [], _∷_}
+use lib.ListN.{getD}
 use mathlib.Core.Path.{_≡_, sym, _∙_, ap, subst}
 use native.Mathlib.Omega.{arith}
 use Rattle.line.specs.Frame.{Frame, Fits, slots}
@@ -43,7 +44,8 @@ module _ (c : Controller) (l : Log) (levels : ℕ) (d : Delivers c l levels) whe
         whole = k .1;
         one = λ g i q. codec (longestOf (c .core)) .one g f i (k .0) (sym q ∙ k .1);
         ends = h;
-        memory = t .memory ∙ ap (λ (x : Frame). received (c .memory) (taker l x) x) n;
+        memory = λ q. t .memory q ∙ ap (λ (x : Frame). received (c .memory) (taker l x) x) n;
+        mailbox = λ a h. t .mailbox a h ∙ ap (λ (x : Frame). getD (received (c .memory) (taker l x) x) a 0) n;
       }
 
   slot-decodes : Decodes c l levels

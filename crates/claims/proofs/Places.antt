@@ -19,7 +19,7 @@ use Rattle.rules.proofs.Matching.Lowest.{found}
 use Rattle.rules.specs.Definitions.Mailbox.{mailboxAt, statusByte, laidFrom, stored, retagged, markedCher, markedChtx, markedChrx, rowsWritten, resetMemory}
 use Rattle.rules.specs.Statements.Valid.{high, low}
 use Rattle.rules.specs.Definitions.Delivery.{memoryStored, memoryDelivered}
-use Rattle.rules.specs.Definitions.Service.{memoryEnded}
+use Rattle.rules.specs.Definitions.Service.{memoryEnded, memoryReplied}
 use Rattle.rules.specs.Definitions.Slots.{memoryJudged, judgedSlot, sampledSlot, activeSlot}
 use Rattle.rules.specs.Definitions.Host.{resetAll, resets, sleeps, keptByte, byteWritten, hostWritten}
 use Rattle.rules.specs.Definitions.Run.{fresh, refuse, accept, answered, restedSlot, next, after}
@@ -32,7 +32,9 @@ use Rattle.rules.specs.declared.Reception.{Reception}
 use Rattle.rules.specs.declared.Delivery.{Delivery}
 use Rattle.rules.specs.declared.Delivery.the-variants as effect
 use Rattle.rules.specs.declared.Ending.{Ending}
-use Rattle.rules.specs.declared.Ending.the-variants.{Going, Sent, Exhausted, Aborted, Rearbitrated}
+use Rattle.rules.specs.declared.Ending.the-variants.{Going, Sent, Exhausted, Aborted, Rearbitrated, Fulfilled}
+use Rattle.rules.specs.declared.Verdict.{Verdict}
+use Rattle.rules.specs.declared.Verdict.the-variants.{Unjudged, Goes, Lost, Failed, Done, Answered}
 use Rattle.rules.specs.declared.Answer.{Answer}
 use Rattle.rules.specs.declared.Controller.{Controller}
 use Rattle.rules.specs.declared.Event.{Event}
@@ -154,6 +156,16 @@ ended-length Sent m c = length-set m _ _
 ended-length Exhausted m c = length-set (markedCher m c) _ _ ∙ length-set m _ _
 ended-length Aborted m c = length-set m _ _
 ended-length Rearbitrated m c = refl
+ended-length Fulfilled m c = refl
+
+replied-length : (q : Verdict) (m : List ℕ) (c : ℕ) → length (memoryReplied q m c) ≡ length m
+unfolding memoryReplied markedChtx markedChrx markedCher
+replied-length Unjudged m c = refl
+replied-length Goes m c = refl
+replied-length Lost m c = refl
+replied-length (Failed code) m c = length-set m _ _
+replied-length Done m c = length-set (markedChtx m c) _ _ ∙ length-set m _ _
+replied-length Answered m c = refl
 
 delivered-length : (d : Delivery) (m : List ℕ) (r : Reception) → length (memoryDelivered d m r) ≡ length m
 unfolding memoryDelivered memoryStored stored markedChrx retagged markedCher
@@ -176,7 +188,7 @@ written-length c a v =
 
 slot-length : (c : Controller) (l : ℕ) → length (activeSlot c l .memory) ≡ length (c .memory)
 unfolding activeSlot sampledSlot judgedSlot memoryJudged
-slot-length c l = ended-length _ _ _ ∙ delivered-length _ (c .memory) (c .core .reception)
+slot-length c l = replied-length _ _ _ ∙ ended-length _ _ _ ∙ delivered-length _ (c .memory) (c .core .reception)
 
 kept-length : (c : Controller) (e : Event) → Step c e → length (next c e .memory) ≡ length (c .memory)
 unfolding next refuse accept answered restedSlot resetAll

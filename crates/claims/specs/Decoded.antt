@@ -15,7 +15,7 @@ use Rattle.rules.specs.Definitions.State.{isActive}
 use Rattle.rules.specs.Definitions.Slots.{sampleOf}
 use Rattle.rules.specs.Definitions.Run.{next}
 use Rattle.rules.specs.Statements.Observer.{accepted}
-use Rattle.rules.specs.Statements.Receiving.{Log, logNext, received, taker, role, hears}
+use Rattle.rules.specs.Statements.Receiving.{Log, logNext, received, taker, role, hears, receives}
 use Rattle.rules.specs.declared.Hearing.the-variants.{Fault, Good}
 use Rattle.rules.specs.declared.Role.the-variants.{Receiver}
 use Rattle.rules.specs.declared.Controller.{Controller}
@@ -31,7 +31,9 @@ pub record Taken (c : Controller) (l : Log) (levels : ℕ) (f : Frame) : Type 0 
   pub whole : heardSoFar c l levels ≡ slots f
   pub one : (g : Frame) → Fits (longestOf (c .core)) g → heardSoFar c l levels ≡ slots g → g ≡ f
   pub ends : hears c levels ≡ Good
-  pub memory : next c (Slot levels) .memory ≡ received (c .memory) (taker l f) f
+  -- the end of an answered request marks its own channel beside
+  pub memory : role c ≡ Receiver → next c (Slot levels) .memory ≡ received (c .memory) (taker l f) f
+  pub mailbox : (a : ℕ) → 0x80 ≤ a → getD (next c (Slot levels) .memory) a 0 ≡ getD (received (c .memory) (taker l f) f) a 0
 
 -- a frame that the samples decode to
 pub record Decodable (c : Controller) (l : Log) (levels : ℕ) : Type 0 where
@@ -53,7 +55,7 @@ abbrev pub DecodesIn : Controller → Log → Event → Type 0
 DecodesIn c l Reset = Unit {0}
 DecodesIn c l (Write address value) = Unit {0}
 DecodesIn c l (Read address) = Unit {0}
-DecodesIn c l (Slot levels) = accepted c (Slot levels) ≡ true → isActive (c .core .activity .mode) ≡ true → role c ≡ Receiver → Decodes c l levels
+DecodesIn c l (Slot levels) = accepted c (Slot levels) ≡ true → isActive (c .core .activity .mode) ≡ true → receives (role c) ≡ true → Decodes c l levels
 
 abbrev pub Decoded : Controller → Log → List Event → Type 0
 Decoded c l [] = Unit {0}

@@ -48,6 +48,7 @@ fn slept(k: Core) -> Core
     t.activity = activity;
     t.reception = reception::quiet();
     t.service = ending::resting();
+    t.reply = state::no_reply();
     t
 }
 

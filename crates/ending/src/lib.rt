@@ -1,9 +1,13 @@
 // How a sending service ends, and the marks that this sets in its channel (01, Sending; 000, Retries, Rearbitrate and Abort).
 ghost use mathlib.Core.Path.{_≡_};
+ghost use Rattle.line.specs.Bits.{pick};
 ghost use Rattle.rules.specs.Definitions.Service as rule;
+ghost use Rattle.rules.specs.declared.Ending.the-variants as endings;
 use rules::Coded;
+use rules::Delivery;
 use rules::Effort;
 use rules::Ending;
+use rules::Reception;
 use rules::Service;
 use rules::Stage;
 use rules::Verdict;
@@ -60,7 +64,39 @@ pub fn ending_of(w: Verdict, s: Service) -> Ending
         Verdict::Lost => stopped(s),
         Verdict::Failed(_) => stopped(s),
         Verdict::Done => Ending::Sent,
+        Verdict::Answered => stopped(s),
     }
+}
+
+// A reply that the channel of a waiting request stores: a frame with R/W 1 and RTR 0.
+fn fulfils(d: Delivery, r: Reception, s: Service) -> bool
+    ensures { λ b. ⌜ b ≡ rule.fulfils d r s ⌝ }
+{
+    let w = r.winner;
+    let b = r.bytes;
+    let e = s.effort;
+    match d {
+        Delivery::Nothing => false,
+        Delivery::Stored => {
+            if stage::between_attempts(e.progress) {
+                return (attempt::is_request(e.frame))
+                    & ((w.channel == s.channel) & (b[1] % 4 == 0b10));
+            }
+            false
+        }
+        Delivery::Overflowed => false,
+        Delivery::Spoiled => false,
+    }
+}
+
+// How the service ends in this slot: fulfilled by what is delivered, or by the attempt. s has the sample counted, before has not.
+pub fn end_in(w: Verdict, d: Delivery, r: Reception, before: Service, s: Service) -> Ending
+    ensures { λ x. ⌜ x ≡ pick (rule.fulfils d r before) endings.Fulfilled (rule.endingOf w s) ⌝ }
+{
+    if fulfils(d, r, before) {
+        return Ending::Fulfilled;
+    }
+    ending_of(w, s)
 }
 
 // The service, or none once it has ended.
@@ -73,6 +109,7 @@ pub fn settled(x: Ending, s: Service) -> Service
         Ending::Exhausted => resting(),
         Ending::Aborted => resting(),
         Ending::Rearbitrated => resting(),
+        Ending::Fulfilled => resting(),
     }
 }
 
@@ -89,5 +126,6 @@ pub fn end_memory(m: &mut [u8; 256], x: Ending, channel: u8)
         }
         Ending::Aborted => marks::mark_chtx(m, channel),
         Ending::Rearbitrated => {}
+        Ending::Fulfilled => {}
     }
 }

@@ -5,29 +5,27 @@ use mathlib.Core.List.{List}
 use mathlib.Core.Path.{_≡_, refl, sym, _∙_, ap}
 use Rattle.line.proofs.Laws.{pick-same}
 use Rattle.rules.specs.Definitions.Registers.{both}
-use Rattle.rules.specs.Definitions.Reception.{underWay}
 use Rattle.rules.specs.Definitions.Delivery.{deliveryOf, deliveryTo, memoryDelivered, reportHeard, reportDelivered}
-use Rattle.rules.specs.Definitions.Attempt.{drivesFrame, judge}
-use Rattle.rules.specs.Definitions.Service.{endingOf, settled, memoryEnded, reportJudged, reportEnded, roleOf}
-use Rattle.rules.specs.Definitions.Slots.{roleIn, delivers, serviceJudged, ending, memoryJudged, reportAfter}
-use Rattle.rules.proofs.Logic.{both-true}
-use Rattle.rules.proofs.Roles.{role-sender, role-other, judge-apart}
-use Rattle.rules.specs.declared.Place.{Place}
+use Rattle.rules.specs.Definitions.Service.{endingOf, settled, memoryEnded, reportJudged, reportEnded, fulfils, memoryReplied, reportReplied, hearOwn}
+use Rattle.rules.specs.Definitions.Slots.{roleIn, verdict, replyVerdict, heardAs, heard, delivers, serviceJudged, ending, memoryJudged, reportAfter}
 use Rattle.rules.specs.declared.Role.{Role}
-use Rattle.rules.specs.declared.Role.the-variants.{Nobody, Receiver, Sender}
+use Rattle.rules.specs.declared.Role.the-variants.{Nobody, Receiver, Sender, Asker, Replier}
 use Rattle.rules.specs.declared.Hearing.{Hearing}
 use Rattle.rules.specs.declared.Hearing.the-variants.{Silent, Follows, Fault, Good}
 use Rattle.rules.specs.declared.Delivery.the-variants.{Nothing}
 use Rattle.rules.specs.declared.Verdict.{Verdict}
-use Rattle.rules.specs.declared.Verdict.the-variants.{Unjudged, Goes, Lost, Failed, Done}
+use Rattle.rules.specs.declared.Verdict.the-variants.{Unjudged, Goes, Lost, Failed, Done, Answered}
 use Rattle.rules.specs.declared.Ending.{Ending}
-use Rattle.rules.specs.declared.Ending.the-variants.{Going, Sent, Exhausted, Aborted, Rearbitrated}
+use Rattle.rules.specs.declared.Ending.the-variants.{Going, Sent, Exhausted, Aborted, Rearbitrated, Fulfilled}
 use Rattle.rules.specs.declared.Reception.{Reception}
 use Rattle.rules.specs.declared.Report.{Report}
-use Rattle.rules.specs.declared.Effort.{Effort}
 use Rattle.rules.specs.declared.Service.{Service}
 use Rattle.rules.specs.declared.Core.{Core}
-use Rattle.judging.specs.Ordinary.{passes, unmarked, goes, ordinary, verdictAs}
+use Rattle.judging.specs.Ordinary.{passes, unmarked, goes, ordinary, Marks}
+
+both-true : (a b : Bool) → both a b ≡ true → (a ≡ true) × (b ≡ true)
+both-true true b e = (refl, e)
+both-true false b e = absurd (false≢true e)
 
 going : (x : Ending) → goes x ≡ true → x ≡ Going
 going Going e = refl
@@ -35,6 +33,7 @@ going Sent e = absurd (false≢true (unfold goes in e))
 going Exhausted e = absurd (false≢true (unfold goes in e))
 going Aborted e = absurd (false≢true (unfold goes in e))
 going Rearbitrated e = absurd (false≢true (unfold goes in e))
+going Fulfilled e = absurd (false≢true (unfold goes in e))
 
 undelivered : (h : Hearing) (r : Reception) → passes h ≡ true → deliveryOf h r ≡ Nothing
 unfolding deliveryOf deliveryTo passes
@@ -48,6 +47,8 @@ unfolding delivers
 nothing Nobody h r e = refl
 nothing Receiver h r e = undelivered h r e
 nothing Sender h r e = refl
+nothing Asker h r e = undelivered h r e
+nothing Replier h r e = refl
 
 unheard : (h : Hearing) (a : Report) → passes h ≡ true → reportHeard h a ≡ a
 unfolding reportHeard passes
@@ -63,8 +64,40 @@ uncounted Goes a s u = refl
 uncounted Lost a s u = absurd (false≢true u)
 uncounted (Failed code) a s u = absurd (false≢true u)
 uncounted Done a s u = absurd (false≢true u)
+uncounted Answered a s u = refl
 
-module _ (k : Core) (w : Verdict) (h : Hearing) (s : Service) (x : Ending) (counted : s ≡ serviceJudged w (k .service)) (is : x ≡ endingOf w s) (e : ordinary w h x ≡ true) where
+-- a reply whose slot is no end for the line
+replied-map : (q : Verdict) (m : List ℕ) (c : ℕ) → passes (hearOwn q) ≡ true → memoryReplied q m c ≡ m
+unfolding memoryReplied hearOwn passes
+replied-map Unjudged m c e = refl
+replied-map Goes m c e = refl
+replied-map Lost m c e = refl
+replied-map (Failed code) m c e = absurd (false≢true e)
+replied-map Done m c e = absurd (false≢true e)
+replied-map Answered m c e = refl
+
+replied-report : (q : Verdict) (a : Report) (c : ℕ) → passes (hearOwn q) ≡ true → reportReplied q a c ≡ a
+unfolding reportReplied hearOwn passes
+replied-report Unjudged a c e = refl
+replied-report Goes a c e = refl
+replied-report Lost a c e = refl
+replied-report (Failed code) a c e = absurd (false≢true e)
+replied-report Done a c e = absurd (false≢true e)
+replied-report Answered a c e = refl
+
+reply-marks : (x : Role) (k : Core) (w : Verdict) (v : ℕ) → Marks (replyVerdict x k v) (heardAs x k w v)
+unfolding Marks replyVerdict heardAs hearOwn passes
+reply-marks Nobody k w v e = refl
+reply-marks Receiver k w v e = refl
+reply-marks Sender k w v e = refl
+reply-marks Asker k w v e = refl
+reply-marks Replier k w v e = e
+
+pub reply-marked : (k : Core) (v : ℕ) → Marks (replyVerdict (roleIn k) k v) (heard k (verdict k v) v)
+unfolding heard
+reply-marked k v = reply-marks (roleIn k) k (verdict k v) v
+
+module _ (k : Core) (w q : Verdict) (h : Hearing) (s : Service) (x : Ending) (counted : s ≡ serviceJudged w (k .service)) (reply : Marks q h) (is : x ≡ endingOf w s) (e : ordinary w h x ≡ true) where
   pass : passes h ≡ true
   unfolding ordinary
   pass = both-true (passes h) (both (unmarked w) (goes x)) e .0
@@ -73,27 +106,23 @@ module _ (k : Core) (w : Verdict) (h : Hearing) (s : Service) (x : Ending) (coun
   unfolding ordinary
   rest = both-true (unmarked w) (goes x) (both-true (passes h) (both (unmarked w) (goes x)) e .1)
 
-  on : ending k w ≡ Going
-  unfolding ending
-  on = ap (endingOf w) (sym counted) ∙ sym is ∙ going x (rest .1)
+  unreplied : passes (hearOwn q) ≡ true
+  unfolding Marks
+  unreplied = reply pass
 
-  pub memory-kept : (m : List ℕ) → m ≡ memoryJudged m k w h
+  on : ending k w h ≡ Going
+  unfolding ending fulfils
+  on = rw (nothing (roleIn k) h (k .reception) pass) (ap (endingOf w) (sym counted) ∙ sym is ∙ going x (rest .1))
+
+  pub memory-kept : (m : List ℕ) → m ≡ memoryJudged m k w q h
   unfolding memoryJudged memoryEnded memoryDelivered
-  memory-kept m = rw (on, nothing (roleIn k) h (k .reception) pass)
+  memory-kept m = rw (on, nothing (roleIn k) h (k .reception) pass, replied-map q m (k .reply .channel) unreplied)
 
-  pub report-kept : k .report ≡ reportAfter k w h
+  pub report-kept : k .report ≡ reportAfter k w q h
   unfolding reportAfter reportEnded reportDelivered
-  report-kept = rw (on, nothing (roleIn k) h (k .reception) pass, unheard h (k .report) pass, uncounted w (k .report) (serviceJudged w (k .service)) (rest .0))
+  report-kept =
+      rw (on, nothing (roleIn k) h (k .reception) pass, unheard h (k .report) pass, uncounted w (k .report) (serviceJudged w (k .service)) (rest .0), replied-report q (k .report) (k .reply .channel) unreplied)
 
-  pub service-kept : s ≡ settled (ending k w) (serviceJudged w (k .service))
+  pub service-kept : s ≡ settled (ending k w h) (serviceJudged w (k .service))
   unfolding settled
   service-kept = rw on counted
-
--- the verdict by the role is that of the rule
-pub verdict-is : (e : Effort) (here : Place) (v : ℕ) → verdictAs (roleOf (e .progress) here) e v ≡ judge e v
-verdict-is e here v = go (drivesFrame (e .progress)) refl (underWay here) refl
-  where
-    go : (d : Bool) → drivesFrame (e .progress) ≡ d → (u : Bool) → underWay here ≡ u → verdictAs (roleOf (e .progress) here) e v ≡ judge e v
-    go true f u g = rw (role-sender (e .progress) here f) (unfold verdictAs in refl)
-    go false f true g = rw (role-other (e .progress) here f, g) (unfold verdictAs in sym (judge-apart e v f))
-    go false f false g = rw (role-other (e .progress) here f, g) (unfold verdictAs in sym (judge-apart e v f))

@@ -5,13 +5,19 @@ ghost use Rattle.rules.specs.Definitions.Attempt as sending;
 ghost use Rattle.rules.specs.Definitions.Reception as reception_rule;
 ghost use Rattle.rules.specs.Definitions.Hearing as hearing_rule;
 ghost use Rattle.rules.specs.Definitions.Service as service_rule;
+ghost use Prim.Native.Nat.{_<_};
+ghost use Rattle.line.specs.Frame as frame;
+ghost use Rattle.rules.specs.Definitions.Longest as longest;
+ghost use Rattle.attempt.specs.Following as behind;
 ghost use Rattle.judging.specs.Ordinary as ordinary;
 use attempt::Trial;
+use rules::Choice;
 use rules::Core;
 use rules::Delivery;
 use rules::Effort;
 use rules::Ending;
 use rules::Hearing;
+use rules::ImmediateReply;
 use rules::Line;
 use rules::Reception;
 use rules::Report;
@@ -25,6 +31,7 @@ struct Judgement {
     verdict: Verdict,
     effort: Effort,
     hearing: Hearing,
+    reply: Verdict,
 }
 
 // What a sample does to registers and service.
@@ -45,35 +52,7 @@ fn hear_own(w: Verdict) -> Hearing
         Verdict::Lost => Hearing::Follows,
         Verdict::Failed(code) => Hearing::Fault(code),
         Verdict::Done => Hearing::Good,
-    }
-}
-
-// For the attempt, by what the model is in the frame under way.
-fn trial(x: Role, e: Effort, v: u8) -> Trial
-    ensures verdict { λ r. ⌜ r .verdict ≡ ordinary.verdictAs x e v ⌝ }
-    ensures effort { λ r. ⌜ r .effort ≡ sending.advance (ordinary.verdictAs x e v) e ⌝ }
-{
-    match x {
-        Role::Nobody => Trial {
-            verdict: Verdict::Unjudged,
-            effort: e,
-        },
-        Role::Receiver => Trial {
-            verdict: Verdict::Unjudged,
-            effort: e,
-        },
-        Role::Sender => attempt::tried(e, v),
-    }
-}
-
-// For the line.
-fn heard(x: Role, k: Core, w: Verdict, v: u8) -> Hearing
-    ensures { λ r. ⌜ r ≡ rule.heardAs x k w v ⌝ }
-{
-    match x {
-        Role::Nobody => hearing::hear_quiet(k.line, v),
-        Role::Receiver => hearing::hear_frame(k.reception, line::LONGEST, v),
-        Role::Sender => hear_own(w),
+        Verdict::Answered => Hearing::Follows,
     }
 }
 
@@ -85,6 +64,8 @@ fn delivers(x: Role, h: Hearing, r: Reception) -> Delivery
         Role::Nobody => Delivery::Nothing,
         Role::Receiver => delivery::delivery_of(h, r),
         Role::Sender => Delivery::Nothing,
+        Role::Asker => delivery::delivery_of(h, r),
+        Role::Replier => Delivery::Nothing,
     }
 }
 
@@ -160,6 +141,7 @@ fn unmarked(w: Verdict) -> bool
         Verdict::Lost => false,
         Verdict::Failed(_) => false,
         Verdict::Done => false,
+        Verdict::Answered => true,
     }
 }
 
@@ -172,6 +154,7 @@ fn goes(x: Ending) -> bool
         Ending::Exhausted => false,
         Ending::Aborted => false,
         Ending::Rearbitrated => false,
+        Ending::Fulfilled => false,
     }
 }
 
@@ -187,48 +170,220 @@ fn ordinary(w: Verdict, h: Hearing, x: Ending) -> bool
     false
 }
 
-// What a sample does to map, registers and service: the store or CHER first, then the marks of a service that ends; s has the sample counted.
-fn take_effect(m: &mut [u8; 256], k: Core, x: Role, w: Verdict, h: Hearing, s: Service) -> Effects
+// The marks of an immediate reply: CHER, or CHTx and CHRx.
+fn mark_reply(m: &mut [u8; 256], q: Verdict, c: u8)
+    ensures { λ _. ⌜ now (m .exit) ≡ service_rule.memoryReplied q (now (m .entry)) c ⌝ }
+{
+    match q {
+        Verdict::Unjudged => {}
+        Verdict::Goes => {}
+        Verdict::Lost => {}
+        Verdict::Failed(_) => marks::mark_cher(m, c),
+        Verdict::Done => {
+            marks::mark_chtx(m, c);
+            marks::mark_chrx(m, c);
+        }
+        Verdict::Answered => {}
+    }
+}
+
+// The store or CHER first, then the marks of a service that ends, then those of a reply; s has the sample counted.
+fn marked(m: &mut [u8; 256], k: Core, x: Role, w: Verdict, q: Verdict, h: Hearing, s: Service) -> Effects
     requires role { ⌜ x ≡ rule.roleIn k ⌝ }
     requires service { ⌜ s ≡ rule.serviceJudged w (k .service) ⌝ }
-    ensures map { λ r. ⌜ now (m .exit) ≡ rule.memoryJudged (now (m .entry)) k w h ⌝ }
-    ensures report { λ r. ⌜ r .report ≡ rule.reportAfter k w h ⌝ }
-    ensures service { λ r. ⌜ r .service ≡ service_rule.settled (rule.ending k w) (rule.serviceJudged w (k .service)) ⌝ }
+    ensures map { λ r. ⌜ now (m .exit) ≡ rule.memoryJudged (now (m .entry)) k w q h ⌝ }
+    ensures report { λ r. ⌜ r .report ≡ rule.reportAfter k w q h ⌝ }
+    ensures service { λ r. ⌜ r .service ≡ service_rule.settled (rule.ending k w h) (rule.serviceJudged w (k .service)) ⌝ }
+{
+    let d = delivers(x, h, k.reception);
+    let end = ending::end_in(w, d, k.reception, k.service, s);
+    delivery::deliver(m, d, k.reception);
+    ending::end_memory(m, end, k.service.channel);
+    mark_reply(m, q, k.reply.channel);
+    let report = reports::report_after(k.report, w, h, d, end, k.reception, s);
+    Effects {
+        report: reports::report_reply(q, report, k.reply.channel),
+        service: ending::settled(end, s),
+    }
+}
+
+// What a sample does to map, registers and service; s has the sample counted.
+fn take_effect(m: &mut [u8; 256], k: Core, x: Role, w: Verdict, q: Verdict, h: Hearing, s: Service) -> Effects
+    requires role { ⌜ x ≡ rule.roleIn k ⌝ }
+    requires service { ⌜ s ≡ rule.serviceJudged w (k .service) ⌝ }
+    requires reply { ⌜ ordinary.Marks q h ⌝ }
+    ensures map { λ r. ⌜ now (m .exit) ≡ rule.memoryJudged (now (m .entry)) k w q h ⌝ }
+    ensures report { λ r. ⌜ r .report ≡ rule.reportAfter k w q h ⌝ }
+    ensures service { λ r. ⌜ r .service ≡ service_rule.settled (rule.ending k w h) (rule.serviceJudged w (k .service)) ⌝ }
 {
     let end = ending::ending_of(w, s);
     if ordinary(w, h, end) {
         let report = k.report;
         return Effects { report, service: s };
     }
-    let d = delivers(x, h, k.reception);
-    delivery::deliver(m, d, k.reception);
-    ending::end_memory(m, end, k.service.channel);
-    Effects {
-        report: reports::report_after(k.report, w, h, d, end, k.reception, s),
-        service: ending::settled(end, s),
+    marked(m, k, x, w, q, h, s)
+}
+
+// ---- the immediate reply
+
+// The reply of a channel, or none; it begins at RTR's first half.
+fn reply_by(m: &[u8; 256], high: u8, low: u8, x: Choice) -> ImmediateReply
+    ensures { λ y. ⌜ y ≡ service_rule.replyBy (now (m .entry)) high low x ⌝ }
+{
+    match x {
+        Choice::Nothing => state::no_reply(),
+        Choice::Lowest(c) => ImmediateReply {
+            going: true,
+            channel: c,
+            at: 28,
+            frame: memory::reply_of(m, c, high, low),
+        },
+    }
+}
+
+// R/W is taken: the reply of the channel that replies.
+fn reply_taken(m: &[u8; 256], r: Reception) -> ImmediateReply
+    ensures { λ y. ⌜ y ≡ service_rule.replyTaken (now (m .entry)) frame.longestData r ⌝ }
+{
+    let b = r.bytes;
+    let low = place::reply_low(r);
+    reply_by(m, b[0], low, matching::replier_for(m, line::LONGEST, b[0], low))
+}
+
+// The reply goes on, or it has ended.
+fn replied(q: Verdict, y: ImmediateReply) -> ImmediateReply
+    requires { ⌜ behind.following q (y .at) < 65536 ⌝ }
+    ensures { λ r. ⌜ r ≡ service_rule.replied q y ⌝ }
+{
+    match q {
+        Verdict::Unjudged => y,
+        Verdict::Goes => {
+            let mut t = y;
+            t.at = y.at + 1;
+            t
+        }
+        Verdict::Lost => state::no_reply(),
+        Verdict::Failed(_) => state::no_reply(),
+        Verdict::Done => state::no_reply(),
+        Verdict::Answered => state::no_reply(),
+    }
+}
+
+// After a sample: taken in the R/W slot of another module's frame; q is what the sample is for the reply, r the frame after it.
+fn reply_after(x: Role, m: &[u8; 256], k: Core, q: Verdict, r: Reception) -> ImmediateReply
+    requires { ⌜ behind.following q (k .reply .at) < 65536 ⌝ }
+    ensures { λ y. ⌜ y ≡ rule.replyAfter x (now (m .entry)) k q r ⌝ }
+{
+    let y = k.reply;
+    match x {
+        Role::Nobody => y,
+        Role::Receiver => {
+            if place::reads_asked(r) {
+                return reply_taken(m, r);
+            }
+            y
+        }
+        Role::Sender => y,
+        Role::Asker => y,
+        Role::Replier => replied(q, y),
     }
 }
 
 // ---- the sample
 
+// A frame of another module.
+fn receives(k: Core, v: u8) -> Hearing
+    ensures { λ r. ⌜ r ≡ hearing_rule.hearFrame (k .reception) (longest.longestOf k) v ⌝ }
+{
+    hearing::hear_frame(k.reception, line::LONGEST, v)
+}
+
+// For the attempt under way, and for the effort, which has it counted.
+fn trial(x: Role, k: Core, v: u8) -> Trial
+    ensures verdict { λ r. ⌜ r .verdict ≡ rule.verdictAs x k v ⌝ }
+    ensures effort { λ r. ⌜ r .effort ≡ sending.advance (rule.verdictAs x k v) (k .service .effort) ⌝ }
+{
+    let e = k.service.effort;
+    match x {
+        Role::Nobody => Trial {
+            verdict: Verdict::Unjudged,
+            effort: e,
+        },
+        Role::Receiver => Trial {
+            verdict: Verdict::Unjudged,
+            effort: e,
+        },
+        Role::Sender => attempt::tried(e, v),
+        Role::Asker => {
+            let h = receives(k, v);
+            attempt::awaited(e, h, delivery::delivery_of(h, k.reception))
+        }
+        Role::Replier => Trial {
+            verdict: Verdict::Unjudged,
+            effort: e,
+        },
+    }
+}
+
+// A slot of a reply; the next has its number.
+fn judge_reply(y: ImmediateReply, v: u8) -> Verdict
+    ensures value { λ r. ⌜ r ≡ service_rule.judgeReply y v ⌝ }
+    ensures room { λ r. ⌜ behind.following r (y .at) < 65536 ⌝ }
+{
+    attempt::judge_slot(y.frame, y.at, v)
+}
+
+// For the reply under way.
+fn reply_verdict(x: Role, k: Core, v: u8) -> Verdict
+    ensures value { λ r. ⌜ r ≡ rule.replyVerdict x k v ⌝ }
+    ensures room { λ r. ⌜ behind.following r (k .reply .at) < 65536 ⌝ }
+{
+    let y = k.reply;
+    match x {
+        Role::Nobody => Verdict::Unjudged,
+        Role::Receiver => Verdict::Unjudged,
+        Role::Sender => Verdict::Unjudged,
+        Role::Asker => Verdict::Unjudged,
+        Role::Replier => judge_reply(y, v),
+    }
+}
+
+// For the line; w is what it is for the attempt, q for the reply.
+fn heard(x: Role, k: Core, w: Verdict, q: Verdict, v: u8) -> Hearing
+    requires { ⌜ q ≡ rule.replyVerdict x k v ⌝ }
+    ensures { λ h. ⌜ h ≡ rule.heardAs x k w v ⌝ }
+{
+    match x {
+        Role::Nobody => hearing::hear_quiet(k.line, v),
+        Role::Receiver => receives(k, v),
+        Role::Sender => hear_own(w),
+        Role::Asker => receives(k, v),
+        Role::Replier => hear_own(q),
+    }
+}
+
 // Judged by what the model is in the frame under way.
 fn judge(k: Core, v: u8) -> Judgement
     ensures role { λ r. ⌜ r .role ≡ rule.roleIn k ⌝ }
-    ensures verdict { λ r. ⌜ r .verdict ≡ sending.judge (k .service .effort) v ⌝ }
-    ensures effort { λ r. ⌜ r .effort ≡ sending.advance (sending.judge (k .service .effort) v) (k .service .effort) ⌝ }
-    ensures hearing { λ r. ⌜ r .hearing ≡ rule.heard k (sending.judge (k .service .effort) v) v ⌝ }
+    ensures verdict { λ r. ⌜ r .verdict ≡ rule.verdict k v ⌝ }
+    ensures reply { λ r. ⌜ r .reply ≡ rule.replyVerdict (rule.roleIn k) k v ⌝ }
+    ensures room { λ r. ⌜ behind.following (r .reply) (k .reply .at) < 65536 ⌝ }
+    ensures effort { λ r. ⌜ r .effort ≡ sending.advance (rule.verdict k v) (k .service .effort) ⌝ }
+    ensures hearing { λ r. ⌜ r .hearing ≡ rule.heard k (rule.verdict k v) v ⌝ }
 {
     let e = k.service.effort;
-    let r = k.reception;
-    let x = place::role_of(e.progress, r.place);
-    let t = trial(x, e, v);
+    let here = k.reception;
+    let x = place::role_of(e.progress, k.reply.going, here.place);
+    let t = trial(x, k, v);
     let w = t.verdict;
     let f = t.effort;
+    let q = reply_verdict(x, k, v);
     Judgement {
         role: x,
         verdict: w,
         effort: f,
-        hearing: heard(x, k, w, v),
+        hearing: heard(x, k, w, q, v),
+        reply: q,
     }
 }
 
@@ -240,17 +395,20 @@ pub fn sample_judged(m: &mut [u8; 256], k: Core, v: u8) -> Core
     let j = judge(k, v);
     let x = j.role;
     let w = j.verdict;
+    let q = j.reply;
     let h = j.hearing;
     let e = j.effort;
     let mut s = k.service;
     s.effort = e;
-    let y = take_effect(m, k, x, w, h, s);
+    let y = take_effect(m, k, x, w, q, h, s);
     let report = y.report;
     let service = y.service;
     let mut t = k;
     t.report = report;
     t.service = service;
     t.line = line_after(h, k.line, v);
-    t.reception = reception_judged(m, h, k.reception, v);
+    let here = reception_judged(m, h, k.reception, v);
+    t.reception = here;
+    t.reply = reply_after(x, m, k, q, here);
     t
 }

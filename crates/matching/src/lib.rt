@@ -1,6 +1,8 @@
 // Matching: who takes a frame, who sends (01, Receiving, Sending; 000, Channel Registers).
 // `low` is byte 1 of a frame or of a channel: identifier or tag bits 3 to 0, EXT, RAK, R/W, RTR.
 ghost use mathlib.Core.Path.{_≡_};
+ghost use mathlib.Core.Bool.{not};
+ghost use Rattle.rules.specs.Definitions.Registers.{both};
 ghost use Rattle.rules.specs.Definitions.Channels as rule;
 use channels::Layout;
 use rules::Buffer;
@@ -61,6 +63,27 @@ fn deferred_reply(bits: u8) -> bool
     bits == 0b1001
 }
 
+// 1,1,0,0.
+fn reply_request(bits: u8) -> bool
+    ensures { λ r. ⌜ r ≡ rule.requestMessage bits ⌝ }
+{
+    bits == 0b1100
+}
+
+// 1,1,-,0.
+fn awaits_reply(bits: u8) -> bool
+    ensures { λ r. ⌜ r ≡ rule.awaitsReply bits ⌝ }
+{
+    (bits == 0b1100) | (bits == 0b1110)
+}
+
+// 1,0,0,0.
+fn immediate_reply(bits: u8) -> bool
+    ensures { λ r. ⌜ r ≡ rule.immediateReply bits ⌝ }
+{
+    bits == 0b1000
+}
+
 // ---- who takes a frame
 
 // Every tag bit under a mask one equals the identifier's.
@@ -70,14 +93,24 @@ fn matches(tag: u16, mask: u16, identifier: u16) -> bool
     (tag ^ identifier) & mask == 0
 }
 
-// Whether the channel's status takes a frame of this command, EXT 1: a data frame (R/W 0, RTR 0) or a reply request (1, 1).
+// The channel's tag matches the frame's identifier under the channel's mask.
+fn tag_matches(x: Channel, high: u8, low: u8) -> bool
+    ensures { λ r. ⌜ r ≡ rule.matches (rule.twelve (x .high) (x .low)) (rule.twelve (x .«mask_high») (x .«mask_low»)) (rule.twelve high low) ⌝ }
+{
+    let tag = twelve(x.high, x.low);
+    let mask = twelve(x.mask_high, x.mask_low);
+    matches(tag, mask, twelve(high, low))
+}
+
+// Whether the channel's status takes a frame of this command, EXT 1: a data frame (R/W 0, RTR 0), a reply request (1, 1) or a reply (1, 0).
 fn listens(x: Channel, low: u8) -> bool
     ensures { λ r. ⌜ r ≡ rule.listens x low ⌝ }
 {
     let bits = status_bits(x);
     let data = (low % 4 == 0b00) & (receive_message(bits));
     let request = (low % 4 == 0b11) & (request_detection(bits));
-    (channels::extension(low)) & ((data) | (request))
+    let reply = (low % 4 == 0b10) & (awaits_reply(bits));
+    (channels::extension(low)) & ((data) | ((request) | (reply)))
 }
 
 // Whether channel c takes the frame: it listens, its tag matches under its mask, its link is good.
@@ -86,9 +119,7 @@ fn takes(m: &[u8; 256], c: u8, high: u8, low: u8) -> bool
 {
     let x = channels::channel_at(m, c);
     if listens(x, low) {
-        let tag = twelve(x.high, x.low);
-        let mask = twelve(x.mask_high, x.mask_low);
-        if matches(tag, mask, twelve(high, low)) {
+        if tag_matches(x, high, low) {
             let b = channels::buffer_of(m, c);
             return b.legal;
         }
@@ -158,12 +189,13 @@ pub fn winner_for(m: &[u8; 256], high: u8, low: u8) -> Winner
 
 // ---- who sends
 
-// The channel's status is 0,0,0,- or 1,0,0,1, and CHER is 0.
+// The channel's status is 0,0,0,-, 1,0,0,1 or 1,1,0,0, and CHER is 0.
 fn asks_to_send(x: Channel) -> bool
     ensures { λ r. ⌜ r ≡ rule.asksToSend x ⌝ }
 {
     let bits = status_bits(x);
-    ((transmit_message(bits)) | (deferred_reply(bits))) & (!channels::cher(x.status))
+    ((transmit_message(bits)) | ((deferred_reply(bits)) | (reply_request(bits))))
+        & (!channels::cher(x.status))
 }
 
 // Whether the buffer holds a status byte and at most `longest` data bytes.
@@ -198,4 +230,64 @@ pub fn lowest_ready(m: &[u8; 256], longest: u8) -> Choice
         channel += 1;
     }
     Choice::Nothing
+}
+
+// ---- who replies
+
+// The channel's status is 1,0,0,0, CHER is 0, and its buffer can be sent.
+fn replies(x: Channel, b: Buffer, longest: u8) -> bool
+    ensures { λ r. ⌜ r ≡ both (rule.immediateReply (rule.statusBits x)) (both (not (rule.cher (x .status))) (rule.sendable b longest)) ⌝ }
+{
+    (immediate_reply(status_bits(x))) & ((!channels::cher(x.status)) & (sendable(b, longest)))
+}
+
+// Whether channel c ends the search for a replier: its tag matches, and it detects requests or replies.
+fn settles_reply(m: &[u8; 256], longest: u8, c: u8, high: u8, low: u8) -> bool
+    ensures { λ r. ⌜ r ≡ rule.settlesReply (now (m .entry)) longest high low c ⌝ }
+{
+    let x = channels::channel_at(m, c);
+    if tag_matches(x, high, low) {
+        let buffer = channels::buffer_of(m, c);
+        if request_detection(status_bits(x)) {
+            return buffer.legal;
+        }
+        return replies(x, buffer, longest);
+    }
+    false
+}
+
+// The lowest channel that settles it.
+fn lowest_settling(m: &[u8; 256], longest: u8, high: u8, low: u8) -> Choice
+    ensures { λ r. ⌜ r ≡ rule.lowest (rule.settlesReply (now (m .entry)) longest high low) rule.channels 0 ⌝ }
+{
+    let mut candidate: u8 = 0;
+    while candidate < channels::CHANNELS {
+        if settles_reply(m, longest, candidate, high, low) {
+            return Choice::Lowest(candidate);
+        }
+        candidate += 1;
+    }
+    Choice::Nothing
+}
+
+// The channel, if it replies.
+fn if_replies(m: &[u8; 256], x: Choice) -> Choice
+    ensures { λ r. ⌜ r ≡ rule.ifReplies (now (m .entry)) x ⌝ }
+{
+    match x {
+        Choice::Nothing => Choice::Nothing,
+        Choice::Lowest(c) => {
+            if immediate_reply(status_bits(channels::channel_at(m, c))) {
+                return Choice::Lowest(c);
+            }
+            Choice::Nothing
+        }
+    }
+}
+
+// The channel that replies to a frame, by its first two bytes.
+pub fn replier_for(m: &[u8; 256], longest: u8, high: u8, low: u8) -> Choice
+    ensures { λ r. ⌜ r ≡ rule.replierFor (now (m .entry)) longest high low ⌝ }
+{
+    if_replies(m, lowest_settling(m, longest, high, low))
 }

@@ -4,6 +4,7 @@ use mathlib.Core.List.{List, [], _∷_, _++_, append-assoc}
 use mathlib.Core.Path.{_≡_, refl, ap, _∙_, sym}
 use native.Mathlib.Nat.{add-zero, sub-zero}
 use native.Mathlib.Omega.{arith}
+use borrow.Author.Tests.{eq-eqb, ne-eqb}
 use lib.ListN.{length, getD, set, take, drop, replicate, drop-of-length-le, length-drop}
 use lib.Seq.{sets, take-at, take-all}
 use Rattle.line.specs.Bits.{bits}
@@ -11,7 +12,7 @@ use Rattle.line.specs.Check.{check}
 use Rattle.line.specs.Frame.{Frame, byteBits, covered}
 use Rattle.line.proofs.Laws.{next, header-bits}
 use Rattle.rules.specs.Definitions.Channels.{base, bufferOf, twelve}
-use Rattle.rules.specs.Definitions.Mailbox.{mailboxAt, statusByte, laidFrom, stored, mailboxBytes, dataIn, sentFrame, codedBytes, coded}
+use Rattle.rules.specs.Definitions.Mailbox.{mailboxAt, statusByte, laidFrom, stored, mailboxBytes, dataIn, frameWith, asksReply, sentFrame, codedBytes, coded}
 use Rattle.rules.proofs.Ranges.Bytes.{mailbox-length}
 use Rattle.rules.specs.declared.Buffer.{Buffer}
 use Rattle.rules.specs.declared.Coded.{Coded}
@@ -103,19 +104,29 @@ coded-is : (f : Frame) (n : ℕ) (bytes : List ℕ) → n ≡ length (f .bytes) 
 unfolding coded
 coded-is f n bytes p q = rw (p, q)
 
--- the frame of a channel, from its header, its data and its check
-pub sent-coded : (m : List ℕ) (c at n : ℕ) (b : Buffer) (t₀ t r : List ℕ) → at ≡ base c → b ≡ bufferOf m c → n ≡ dataIn (b .length) → n ≤ 30
-    → t₀ ≡ (twelve (getD m (at + 0) 0) (getD m (at + 1) 0) / 16) ∷ (twelve (getD m (at + 0) 0) (getD m (at + 1) 0) % 16 * 16 + getD m (at + 1) 0 % 16) ∷ replicate 32 0
+-- a frame with a channel's data, from its header, its data and its check
+pub with-coded : (m : List ℕ) (c high low n : ℕ) (b : Buffer) (t₀ t r : List ℕ) → b ≡ bufferOf m c → n ≤ 30
+    → t₀ ≡ (twelve high low / 16) ∷ (twelve high low % 16 * 16 + low % 16) ∷ replicate 32 0
     → t ≡ sets t₀ 2 (mailboxBytes m (b .pointer) 1 n)
     → r ≡ set (set t (n + 2) (check (byteBits (take (n + 2) t)) / 128)) (n + 3) (check (byteBits (take (n + 2) t)) % 128 * 2)
-    → _≡_ {A = Coded} (record { n = n; bytes = r }) (coded (sentFrame m c))
-unfolding sentFrame
-sent-coded m c at n b t₀ t r p q s h u v w =
-    let f : Frame = sentFrame m c in
-    let d : n ≡ dataIn (bufferOf m c .length) = rw (← q) s in
-    let l : length (f .bytes) ≡ n = rw (← d) (mailbox-length m (bufferOf m c .pointer) 1 n) in
-    let g : t ≡ sets ((f .identifier / 16) ∷ (f .identifier % 16 * 16 + f .command) ∷ replicate 32 0) 2 (f .bytes) = v ∙ rw (u, add-zero at, q, p, d) in
+    → _≡_ {A = Coded} (record { n = n; bytes = r }) (coded (frameWith m c high low n))
+unfolding frameWith
+with-coded m c high low n b t₀ t r q h u v w =
+    let f : Frame = frameWith m c high low n in
+    let l : length (f .bytes) ≡ n = mailbox-length m (bufferOf m c .pointer) 1 n in
+    let g : t ≡ sets ((f .identifier / 16) ∷ (f .identifier % 16 * 16 + f .command) ∷ replicate 32 0) 2 (f .bytes) = v ∙ rw (u, q) in
     coded-is f n r (sym l) (w ∙ coded-bytes f t n (omega arith) l h g)
+
+-- the frame of a channel: a request has no data
+pub sent-request : (m : List ℕ) (c at : ℕ) (r : Coded) → at ≡ base c → getD m (at + 1) 0 % 4 ≡ 3
+    → r ≡ coded (frameWith m c (getD m (at + 0) 0) (getD m (at + 1) 0) 0) → r ≡ coded (sentFrame m c)
+unfolding sentFrame asksReply
+sent-request m c at r p e h = h ∙ rw (add-zero at, p) (simp (eq-eqb (getD m (base c + 1) 0 % 4) 3 (rw (← p) e)))
+
+pub sent-data : (m : List ℕ) (c at n : ℕ) (r : Coded) → at ≡ base c → (getD m (at + 1) 0 % 4 ≡ 3 → ⊥) → n ≡ dataIn (bufferOf m c .length)
+    → r ≡ coded (frameWith m c (getD m (at + 0) 0) (getD m (at + 1) 0) n) → r ≡ coded (sentFrame m c)
+unfolding sentFrame asksReply
+sent-data m c at n r p e d h = h ∙ rw (add-zero at, p, d) (simp (ne-eqb (getD m (base c + 1) 0 % 4) 3 (rw (← p) e)))
 
 -- ---- a frame in the mailbox
 

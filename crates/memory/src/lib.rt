@@ -106,17 +106,46 @@ fn sealed(bytes: [u8; line::CODED_BYTES], n: u8) -> [u8; line::CODED_BYTES]
     t
 }
 
-// The frame that channel c sends: its tag and command, M_L - 1 data bytes from pointer + 1, and the check.
-pub fn coded_of(m: &[u8; 256], c: u8) -> Coded
-    ensures { λ r. ⌜ r ≡ rule.coded (rule.sentFrame (now (m .entry)) c) ⌝ }
+// A frame by its first two bytes, with n data bytes of channel c's, from pointer + 1, and its check.
+fn coded_with(m: &[u8; 256], c: u8, high: u8, low: u8, n: u8) -> Coded
+    requires { ⌜ n ≤ frame.longestData ⌝ }
+    ensures { λ r. ⌜ r ≡ rule.coded (rule.frameWith (now (m .entry)) c high low n) ⌝ }
 {
-    let at = channels::base(c);
     let b = channels::buffer_of(m, c);
-    let n = data_in(b.length);
-    let mut bytes = headed(m[at + Layout::TAG], m[at + Layout::TAG_COMMAND]);
+    let mut bytes = headed(high, low);
     copy(&mut bytes, m, b.pointer, n);
     Coded {
         n: n,
         bytes: sealed(bytes, n),
     }
+}
+
+// The data bytes that channel c's length holds.
+fn data_of(m: &[u8; 256], c: u8) -> u8
+    ensures value { λ r. ⌜ r ≡ rule.dataIn (channel.bufferOf (now (m .entry)) c .length) ⌝ }
+    ensures range { λ r. ⌜ r ≤ frame.longestData ⌝ }
+{
+    let b = channels::buffer_of(m, c);
+    data_in(b.length)
+}
+
+// The frame that channel c sends: its tag and command, M_L - 1 data bytes from pointer + 1, and the check. A request has no data.
+pub fn coded_of(m: &[u8; 256], c: u8) -> Coded
+    ensures { λ r. ⌜ r ≡ rule.coded (rule.sentFrame (now (m .entry)) c) ⌝ }
+{
+    let at = channels::base(c);
+    let high = m[at + Layout::TAG];
+    let low = m[at + Layout::TAG_COMMAND];
+    if low % 4 == 3 {
+        return coded_with(m, c, high, low, 0);
+    }
+    let n = data_of(m, c);
+    coded_with(m, c, high, low, n)
+}
+
+// The frame that channel c replies with: identifier and command are given.
+pub fn reply_of(m: &[u8; 256], c: u8, high: u8, low: u8) -> Coded
+    ensures { λ r. ⌜ r ≡ rule.coded (rule.replyFrame (now (m .entry)) c high low) ⌝ }
+{
+    coded_with(m, c, high, low, data_of(m, c))
 }

@@ -1,5 +1,6 @@
 // Where in the frame the line stands, and what the model is in it (01, Receiving).
 ghost use mathlib.Core.Path.{_≡_};
+ghost use Prim.Native.Nat.{_+_, _*_, _/_, _%_};
 ghost use Rattle.rules.specs.Definitions.Reception as rule;
 ghost use Rattle.rules.specs.Definitions.Service as service_rule;
 use rules::Phase;
@@ -22,12 +23,18 @@ pub fn under_way(p: Place) -> bool
     }
 }
 
-// Sender from its first driven slot on, receiver of any other frame under way.
-pub fn role_of(p: Progress, here: Place) -> Role
-    ensures { λ r. ⌜ r ≡ service_rule.roleOf p here ⌝ }
+// Sender from its first driven slot on; asker once its request is answered; replier; receiver of any other frame under way.
+pub fn role_of(p: Progress, replies: bool, here: Place) -> Role
+    ensures { λ r. ⌜ r ≡ service_rule.roleOf p replies here ⌝ }
 {
     if stage::drives_frame(p) {
         return Role::Sender;
+    }
+    if stage::is_answered(p) {
+        return Role::Asker;
+    }
+    if replies {
+        return Role::Replier;
     }
     if under_way(here) {
         return Role::Receiver;
@@ -72,4 +79,30 @@ pub fn command_ended(r: Reception) -> bool
     ensures { λ b. ⌜ b ≡ rule.commandEnded r ⌝ }
 {
     behind(r, 4)
+}
+
+// Whether R/W has just been taken, in a frame with EXT 1 and R/W 1: three bits of the fourth nibble.
+pub fn reads_asked(r: Reception) -> bool
+    ensures { λ b. ⌜ b ≡ rule.readsAsked r ⌝ }
+{
+    let p = r.place;
+    if in_body(p) {
+        return (r.nibbles == 3) & ((p.at == 3) & ((r.bits / 4 % 2 == 1) & (r.bits % 2 == 1)));
+    }
+    false
+}
+
+// Byte 1 of a reply, from byte 1 of the request as far as it is heard and the bits behind it.
+fn answering(heard: u8, bits: u8) -> u8
+    ensures { λ b. ⌜ b ≡ heard / 16 * 16 + 8 + bits / 2 % 2 * 4 + 2 ⌝ }
+{
+    heard / 16 * 16 + 8 + bits / 2 % 2 * 4 + 2
+}
+
+// Byte 1 of a reply to it: identifier bits 3 to 0, EXT 1, RAK as heard, R/W 1, RTR 0.
+pub fn reply_low(r: Reception) -> u8
+    ensures { λ b. ⌜ b ≡ rule.replyLow r ⌝ }
+{
+    let b = r.bytes;
+    answering(b[1], r.bits)
 }

@@ -24,4 +24,7 @@ pub fn in_range(k: Core) -> bool
         & (k.service.effort.setting <= 15)
         & (k.service.effort.progress.at <= 60 + 10 * (line::LONGEST as u16) - 1)
         & (k.service.effort.counters.errors.0 <= 15)
+        & (k.reply.channel <= 13)
+        & (k.reply.at <= 60 + 10 * (line::LONGEST as u16) - 1)
+        & (k.reply.frame.n <= line::LONGEST)
 }

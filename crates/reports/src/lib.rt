@@ -4,6 +4,7 @@ ghost use mathlib.Core.Bool.{true};
 ghost use Rattle.rules.specs.Definitions.Delivery as delivery;
 ghost use Rattle.rules.specs.Definitions.Service as rule;
 ghost use Rattle.rules.specs.Definitions.Setters as setter;
+ghost use Rattle.rules.specs.declared.Verdict.the-variants as verdicts;
 use registers::Code;
 use rules::Delivery;
 use rules::Ending;
@@ -105,7 +106,7 @@ pub fn report_sending(x: Report, s: Service) -> Report
     t
 }
 
-// 0x05 after a sample; s is the service with its error counted.
+// 0x07 and 0x05 after an error in a sample; s is the service with its error counted.
 fn report_judged(w: Verdict, x: Report, s: Service) -> Report
     ensures { λ r. ⌜ r ≡ rule.reportJudged w x s ⌝ }
 {
@@ -113,8 +114,9 @@ fn report_judged(w: Verdict, x: Report, s: Service) -> Report
         Verdict::Unjudged => x,
         Verdict::Goes => x,
         Verdict::Lost => x,
-        Verdict::Failed(_) => report_sending(x, s),
+        Verdict::Failed(code) => report_sending(with_error(x, code), s),
         Verdict::Done => x,
+        Verdict::Answered => x,
     }
 }
 
@@ -154,6 +156,32 @@ pub fn report_ended(e: Ending, x: Report, s: Service) -> Report
         Ending::Exhausted => report_message(x, s, raise_te(x.flags)),
         Ending::Aborted => x,
         Ending::Rearbitrated => x,
+        Ending::Fulfilled => x,
+    }
+}
+
+// TOK, and 0x06 with retries 0.
+fn reply_sent(x: Report, c: u8) -> Report
+    ensures { λ r. ⌜ r ≡ rule.reportReplied verdicts.Done x c ⌝ }
+{
+    let mut t = x;
+    t.message.count = 0;
+    t.message.channel = c;
+    t.flags.tok = true;
+    t
+}
+
+// What a sample of an immediate reply does: success, or RE.
+pub fn report_reply(q: Verdict, report: Report, c: u8) -> Report
+    ensures { λ r. ⌜ r ≡ rule.reportReplied q report c ⌝ }
+{
+    match q {
+        Verdict::Unjudged => report,
+        Verdict::Goes => report,
+        Verdict::Lost => report,
+        Verdict::Failed(_) => receive_error(report),
+        Verdict::Done => reply_sent(report, c),
+        Verdict::Answered => report,
     }
 }
 

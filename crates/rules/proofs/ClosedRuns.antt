@@ -9,14 +9,14 @@ use Rattle.line.specs.LineCode.{lineCode}
 use Rattle.line.specs.Frame.{byteBits, slots, size}
 use Rattle.rules.specs.Definitions.Registers.{either, bit, readOnly, resetValues}
 use Rattle.rules.specs.Definitions.Mailbox.{rowsWritten, resetMemory}
-use Rattle.rules.specs.Definitions.Channels.{receiveMessage, requestDetection, transmitMessage, deferredReply, lowest, matches}
+use Rattle.rules.specs.Definitions.Channels.{receiveMessage, requestDetection, transmitMessage, deferredReply, requestMessage, lowest, matches}
 use Rattle.rules.specs.Definitions.State.{ranges}
 use Rattle.rules.specs.Definitions.Slots.{drives}
 use Rattle.rules.specs.Definitions.Host.{lineStatusOf, resetAll}
 use Rattle.rules.specs.Definitions.Run.{fresh, step}
 use Rattle.rules.specs.Statements.Observer.{atReset}
 use Rattle.rules.specs.Statements.Claims.{Runs, Courses}
-use Rattle.rules.specs.Statements.Runs.{Counts, seenOver, setUp, ones, levels, sent, echoed, overdriven, ran, listening, asking, Stored, lastAnswer, reads, sees, pin, again, sendingData, failures, overdrivenAt, refuses, readsFrom, writesFrom, framed, heardBy, offered, typesFrom, types, flipped, beyond, largestOf}
+use Rattle.rules.specs.Statements.Runs.{Counts, seenOver, setUp, ones, levels, sent, echoed, overdriven, ran, listening, asking, Stored, lastAnswer, reads, sees, pin, again, sendingData, failures, overdrivenAt, refuses, readsFrom, writesFrom, framed, heardBy, offered, typesFrom, types, flipped, beyond, largestOf, lower}
 use Rattle.rules.specs.declared.Choice.the-variants.{Lowest}
 use Rattle.rules.specs.declared.Mode.the-variants.{Active}
 use Rattle.rules.specs.declared.Event.the-variants.{Reset, Slot, Write, Read}
@@ -460,7 +460,7 @@ pub no-channel-14 : sees (Write 0x13 0x0A ∷ Write 0x1A 0x0E ∷ Write 0x03 0x1
 unfolding lastAnswer ran sees reads
 no-channel-14 = refl
 
--- a channel with CHER 1 listens, and CHER stays; so does one with EXT 0; 1,1,-,0 takes no frame with R/W 1 and RTR 0
+-- a channel with CHER 1 listens, and CHER stays; so does one with EXT 0; 1,1,1,0 takes a frame with R/W 1 and RTR 0 (02, Req 01)
 pub cher-listens : sees (heardBy (Write 0x1B 0x1C ∷ []) (slots (framed 8 []))) (0x09 ∷ 0x1B ∷ []) ≡ 0x81 ∷ 0x1D ∷ []
 unfolding lastAnswer ran heardBy listening ones levels framed sees reads
 cher-listens = refl
@@ -469,17 +469,13 @@ pub channel-ext-0 : sees (heardBy (Write 0x19 0x31 ∷ []) (slots (framed 8 []))
 unfolding lastAnswer ran heardBy listening ones levels framed sees reads
 channel-ext-0 = refl
 
-pub no-reply-taken : sees (heardBy (Write 0x19 0x3B ∷ []) (slots (framed 10 []))) (0x09 ∷ 0x1B ∷ []) ≡ 0x80 ∷ 0x18 ∷ []
+pub reply-taken : sees (heardBy (Write 0x19 0x3B ∷ Write 0x1B 0x1A ∷ []) (slots (framed 10 []))) (0x09 ∷ 0x1B ∷ []) ≡ 0x81 ∷ 0x1B ∷ []
 unfolding lastAnswer ran heardBy listening ones levels framed sees reads
-no-reply-taken = refl
-
-pub no-reply-awaited : sees (heardBy (Write 0x19 0x3B ∷ Write 0x1B 0x1A ∷ []) (slots (framed 10 []))) (0x09 ∷ 0x1B ∷ []) ≡ 0x80 ∷ 0x1A ∷ []
-unfolding lastAnswer ran heardBy listening ones levels framed sees reads
-no-reply-awaited = refl
+reply-taken = refl
 
 -- message types, for RNW, RTR, CHTx, CHRx of 0 to 15: sent, takes data, takes requests
-pub types-sent : types (λ b. either (transmitMessage b) (deferredReply b)) ≡ 1 ∷ 1 ∷ 0 ∷ 0 ∷ 0 ∷ 0 ∷ 0 ∷ 0 ∷ 0 ∷ 1 ∷ 0 ∷ 0 ∷ 0 ∷ 0 ∷ 0 ∷ 0 ∷ []
-unfolding transmitMessage deferredReply types typesFrom bit
+pub types-sent : types (λ b. either (transmitMessage b) (either (deferredReply b) (requestMessage b))) ≡ 1 ∷ 1 ∷ 0 ∷ 0 ∷ 0 ∷ 0 ∷ 0 ∷ 0 ∷ 0 ∷ 1 ∷ 0 ∷ 0 ∷ 1 ∷ 0 ∷ 0 ∷ 0 ∷ []
+unfolding transmitMessage deferredReply requestMessage types typesFrom bit
 types-sent = refl
 
 pub types-of-data : types receiveMessage ≡ 0 ∷ 0 ∷ 0 ∷ 0 ∷ 1 ∷ 0 ∷ 1 ∷ 0 ∷ 0 ∷ 0 ∷ 0 ∷ 0 ∷ 0 ∷ 0 ∷ 0 ∷ 0 ∷ []
@@ -561,7 +557,7 @@ pub out-of-range : lastAnswer (record { refused = 0; value = 0; next = beyond })
 unfolding lastAnswer beyond
 out-of-range = refl
 
-pub largest-values : largestOf (ranges (fresh .core)) ≡ 15 ∷ 13 ∷ 15 ∷ 13 ∷ 32 ∷ 12 ∷ 9 ∷ 67 ∷ 15 ∷ 13 ∷ 127 ∷ 31 ∷ 13 ∷ 30 ∷ 15 ∷ 359 ∷ 15 ∷ []
+pub largest-values : largestOf (ranges (fresh .core)) ≡ 15 ∷ 13 ∷ 15 ∷ 13 ∷ 32 ∷ 12 ∷ 9 ∷ 67 ∷ 15 ∷ 13 ∷ 127 ∷ 31 ∷ 13 ∷ 30 ∷ 15 ∷ 359 ∷ 15 ∷ 13 ∷ 359 ∷ 30 ∷ []
 unfolding largestOf ranges size
 largest-values = refl
 
@@ -599,6 +595,56 @@ own-data-unseen = refl
 pub own-check-unseen : sees (sendingData ++ (ones 12 ++ (levels (take 50 (slots asking)) ++ ones 1))) (0x05 ∷ 0x07 ∷ []) ≡ 0x10 ∷ 0x02 ∷ []
 unfolding lastAnswer ran asking sendingData ones levels sees reads
 own-check-unseen = refl
+
+-- 02, Req 01. A request whose RTR is driven dominant: the frame that answers is stored, TOK, CHTx and CHRx, and 0x06 has channel 1
+pub answered : sees (heardBy (Write 0x19 0x3B ∷ Write 0x01 0x23 ∷ []) (slots (framed 10 (0xA5 ∷ 0x3C ∷ [])))) (0x06 ∷ 0x09 ∷ 0x1B ∷ 0xFF ∷ 0x80 ∷ 0x81 ∷ []) ≡ 0x01 ∷ 0x89 ∷ 0x1B ∷ 0x42 ∷ 0xA5 ∷ 0x3C ∷ []
+unfolding lastAnswer ran heardBy listening ones levels framed sees reads
+answered = refl
+
+pub not-answered-yet : sees (heardBy (Write 0x19 0x3B ∷ Write 0x01 0x23 ∷ []) (take 79 (slots (framed 10 (0xA5 ∷ 0x3C ∷ []))))) (0x04 ∷ 0x09 ∷ 0x1B ∷ []) ≡ 0x03 ∷ 0x80 ∷ 0x18 ∷ []
+unfolding lastAnswer ran heardBy listening ones levels framed sees reads
+not-answered-yet = refl
+
+-- an answer that does not fit is an error of the attempt, BOV; one that no channel takes is CV at the end of the good frame
+pub answer-too-long : sees (heardBy (Write 0x19 0x3B ∷ Write 0x01 0x23 ∷ Write 0x1B 0x10 ∷ []) (slots (framed 10 (0xA5 ∷ 0x3C ∷ [])))) (0x05 ∷ 0x07 ∷ 0x09 ∷ 0x1B ∷ []) ≡ 0x11 ∷ 0x20 ∷ 0x84 ∷ 0x14 ∷ []
+unfolding lastAnswer ran heardBy listening ones levels framed sees reads
+answer-too-long = refl
+
+pub answer-untaken : sees (listening ++ (Write 0x19 0x3B ∷ Write 0x01 0x23 ∷ (ones 12 ++ (levels (take 20 (slots (framed 10 (0xA5 ∷ 0x3C ∷ [])))) ++ (Write 0x1B 0x19 ∷ levels (drop 20 (slots (framed 10 (0xA5 ∷ 0x3C ∷ []))))))))) (0x05 ∷ 0x07 ∷ 0x09 ∷ 0x1B ∷ []) ≡ 0x11 ∷ 0x02 ∷ 0x80 ∷ 0x19 ∷ []
+unfolding lastAnswer ran framed listening ones levels sees reads
+answer-untaken = refl
+
+-- a request that nobody answers is sent, without data, whatever its M_L
+pub unanswered : sees (heardBy (Write 0x19 0x3B ∷ Write 0x01 0x23 ∷ []) (slots (framed 11 []))) (0x06 ∷ 0x09 ∷ 0x1B ∷ []) ≡ 0x01 ∷ 0x88 ∷ 0x1A ∷ []
+unfolding lastAnswer ran heardBy listening ones levels framed sees reads
+unanswered = refl
+
+-- a waiting request ends where its channel stores a reply
+pub fulfilled : sees (heardBy (Write 0x19 0x3B ∷ Write 0x01 0x23 ∷ Write 0x1F 0x00 ∷ []) (slots lower)) (0x04 ∷ 0x09 ∷ 0x18 ∷ 0x19 ∷ 0x1B ∷ []) ≡ 0x00 ∷ 0x81 ∷ 0xF2 ∷ 0x0B ∷ 0x19 ∷ []
+unfolding lastAnswer ran heardBy listening ones levels lower sees reads
+fulfilled = refl
+
+-- an immediate reply begins at RTR's first half, not before; sent whole it sets TOK, CHTx and CHRx, and 0x06 has retries 0
+pub reply-starts : pin (heardBy (Write 0x19 0x3A ∷ Write 0x80 0xA5 ∷ Write 0x81 0x3C ∷ []) (take 28 (slots (framed 11 [])))) ≡ 0
+unfolding lastAnswer ran heardBy listening ones levels framed pin
+reply-starts = refl
+
+pub reply-not-sooner : pin (heardBy (Write 0x19 0x3A ∷ Write 0x80 0xA5 ∷ Write 0x81 0x3C ∷ []) (take 27 (slots (framed 11 [])))) ≡ 1
+unfolding lastAnswer ran heardBy listening ones levels framed pin
+reply-not-sooner = refl
+
+pub reply-sent : sees (heardBy (Write 0x19 0x3A ∷ Write 0x80 0xA5 ∷ Write 0x81 0x3C ∷ []) (slots (framed 10 (0xA5 ∷ 0x3C ∷ [])))) (0x05 ∷ 0x06 ∷ 0x09 ∷ 0x1B ∷ []) ≡ 0x00 ∷ 0x01 ∷ 0x88 ∷ 0x1B ∷ []
+unfolding lastAnswer ran heardBy listening ones levels framed sees reads
+reply-sent = refl
+
+-- a reply that is lost leaves no mark; an error in it sets CHER and RE, not TE
+pub reply-lost : sees (heardBy (Write 0x19 0x3A ∷ Write 0x80 0xA5 ∷ Write 0x81 0x3C ∷ []) (take 30 (slots (framed 10 (0xA5 ∷ 0x3C ∷ []))) ++ (0 ∷ []))) (0x04 ∷ 0x05 ∷ 0x09 ∷ 0x1B ∷ []) ≡ 0x01 ∷ 0x00 ∷ 0x80 ∷ 0x18 ∷ []
+unfolding lastAnswer ran heardBy listening ones levels framed sees reads
+reply-lost = refl
+
+pub reply-failed : sees (heardBy (Write 0x19 0x3A ∷ Write 0x80 0xA5 ∷ Write 0x81 0x3C ∷ []) (take 31 (slots (framed 10 (0xA5 ∷ 0x3C ∷ []))) ++ (1 ∷ []))) (0x04 ∷ 0x05 ∷ 0x07 ∷ 0x09 ∷ 0x1B ∷ []) ≡ 0x00 ∷ 0x00 ∷ 0x02 ∷ 0x84 ∷ 0x1C ∷ []
+unfolding lastAnswer ran heardBy listening ones levels framed sees reads
+reply-failed = refl
 
 pub courses : Courses
 courses =
@@ -678,8 +724,7 @@ courses =
       no-channel-14 = no-channel-14;
       cher-listens = cher-listens;
       channel-ext-0 = channel-ext-0;
-      no-reply-taken = no-reply-taken;
-      no-reply-awaited = no-reply-awaited;
+      reply-taken = reply-taken;
       types-sent = types-sent;
       types-of-data = types-of-data;
       types-of-requests = types-of-requests;
@@ -708,4 +753,15 @@ courses =
       own-identifier-unseen = own-identifier-unseen;
       own-data-unseen = own-data-unseen;
       own-check-unseen = own-check-unseen;
+      answered = answered;
+      not-answered-yet = not-answered-yet;
+      answer-too-long = answer-too-long;
+      answer-untaken = answer-untaken;
+      unanswered = unanswered;
+      fulfilled = fulfilled;
+      reply-starts = reply-starts;
+      reply-not-sooner = reply-not-sooner;
+      reply-sent = reply-sent;
+      reply-lost = reply-lost;
+      reply-failed = reply-failed;
     }

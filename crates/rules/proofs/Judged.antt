@@ -4,7 +4,7 @@ use Prim.Native.Nat.{ℕ, _+_, _-_, _*_, _%_, _≤_, _<_}
 use mathlib.Core.Bool.{Bool, true, false, false≢true}
 use mathlib.Core.Path.{_≡_, refl}
 use native.Mathlib.Omega.{arith}
-use borrow.Author.Tests.{ltb-true, ltb-false, eqb-true}
+use borrow.Author.Tests.{ltb-true, ltb-false, eqb-true, eqb-false}
 use lib.Dec.{eqb, ltb}
 use Rattle.line.specs.Frame.{size}
 use Rattle.line.specs.Layout.{partOf, halfOf, inFive}
@@ -14,12 +14,12 @@ use Rattle.line.specs.declared.Part.the-variants.{Start, Identifier, Command, D
 use Rattle.line.specs.declared.Half.{Half}
 use Rattle.line.specs.declared.Half.the-variants.{Plain, First, Second}
 use Rattle.rules.specs.Definitions.Registers.{both, CV, ACKE, FCSE}
-use Rattle.rules.specs.Definitions.Attempt.{drivesFrame, levelAt, due, openHalf, arbitrated, inCheck, inAcknowledge, differenceIn, difference, judgeSlot, judge}
+use Rattle.rules.specs.Definitions.Attempt.{drivesFrame, rtrSlot, isRequest, levelAt, due, openHalf, arbitrated, inCheck, inAcknowledge, differenceIn, difference, judgeSlot, judge}
 use Rattle.rules.proofs.Logic.{both-true}
 use Rattle.rules.specs.declared.Coded.{Coded}
 use Rattle.rules.specs.declared.Effort.{Effort}
 use Rattle.rules.specs.declared.Verdict.{Verdict}
-use Rattle.rules.specs.declared.Verdict.the-variants.{Unjudged, Goes, Lost, Failed, Done}
+use Rattle.rules.specs.declared.Verdict.the-variants.{Unjudged, Goes, Lost, Failed, Done, Answered}
 
 -- an attempt goes on only inside its frame; contention is lost only in a plain bit or first half of identifier, command or data; an error's code fits the register
 pub data Judged (x : Coded) (k v : ℕ) : Verdict → Type 0 where
@@ -27,6 +27,7 @@ pub data Judged (x : Coded) (k v : ℕ) : Verdict → Type 0 where
   lost : 10 ≤ k → k < 30 + 10 * x .n → inFive k < 4 → Judged x k v Lost
   broke : (code : ℕ) → code ≤ 32 → Judged x k v (Failed code)
   done : Judged x k v Done
+  answered : k ≡ rtrSlot → isRequest x ≡ true → (v ≡ due x k → ⊥) → Judged x k v Answered
 
 no : {A : Type 0} → false ≡ true → A
 no e = absurd (false≢true e)
@@ -78,10 +79,20 @@ module _ (x : Coded) (k v : ℕ) where
   slot-judged =
       picked (Judged x k v) (eqb v (due x k)) _ _
       (λ e. picked (Judged x k v) (ltb (k + 1) (size (x .n))) Goes Done (λ d. went (eqb-true v (due x k) e) (ltb-true _ _ d)) (λ d. done))
-      (λ e. difference-judged (levelAt x k))
+      (λ e. picked (Judged x k v) (both (eqb k rtrSlot) (isRequest x)) Answered _
+      (λ d. let h = both-true (eqb k rtrSlot) (isRequest x) d in answered (eqb-true k rtrSlot (h .0)) (h .1) (eqb-false v (due x k) e))
+      (λ d. difference-judged (levelAt x k)))
+
+-- in an attempt that another module answers
+pub data Awaited : Verdict → Type 0 where
+  on : Awaited Answered
+  apart : Awaited Unjudged
+  broken : (code : ℕ) → code ≤ 32 → Awaited (Failed code)
+  fulfilled : Awaited Done
 
 pub data Tried (e : Effort) (v : ℕ) : Verdict → Type 0 where
   unjudged : Tried e v Unjudged
+  awaited : {w : Verdict} → Awaited w → Tried e v w
   judged : {w : Verdict} → Judged (e .frame) (e .progress .at) v w → Tried e v w
 
 pub tried : (e : Effort) (v : ℕ) → Tried e v (judge e v)

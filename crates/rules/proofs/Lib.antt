@@ -4,6 +4,7 @@ pub mod Resets
 pub mod Matching
 pub mod Steps
 pub mod Logic
+pub mod Samples
 pub mod Judged
 pub mod Roles
 pub mod Sending

@@ -1,4 +1,5 @@
+pub mod Replies
+pub mod Flags
 pub mod Agreed
-pub mod Ends
 pub mod Settled
 pub mod EveryRun

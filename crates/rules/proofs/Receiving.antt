@@ -8,4 +8,5 @@ pub mod InvariantLaws
 pub mod OwnAttempt
 pub mod Log
 pub mod LogSteps
+pub mod Answers
 pub mod EveryRun

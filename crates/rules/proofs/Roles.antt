@@ -3,10 +3,11 @@ use Prim.Native.Nat.{ℕ}
 use mathlib.Core.Bool.{Bool, true, false, false≢true}
 use mathlib.Core.Path.{_≡_, refl, ap, sym}
 use Rattle.line.specs.Bits.{pick}
+use Rattle.line.proofs.Laws.{picked}
 use Rattle.rules.specs.Definitions.Reception.{underWay}
 use Rattle.rules.specs.Definitions.Hearing.{hearFrame, hearQuiet}
-use Rattle.rules.specs.Definitions.Attempt.{drivesFrame, judgeSlot, judge}
-use Rattle.rules.specs.Definitions.Service.{roleOf, hearOwn}
+use Rattle.rules.specs.Definitions.Attempt.{drivesFrame, isAnswered, judgeSlot, judge}
+use Rattle.rules.specs.Definitions.Service.{roleOf, judgeReply, hearOwn}
 use Rattle.rules.specs.Definitions.Longest.{longestOf}
 use Rattle.rules.specs.Definitions.Slots.{heardAs, heard}
 use Rattle.rules.specs.declared.Place.{Place}
@@ -15,53 +16,44 @@ use Rattle.rules.specs.declared.Effort.{Effort}
 use Rattle.rules.specs.declared.Verdict.{Verdict}
 use Rattle.rules.specs.declared.Verdict.the-variants.{Unjudged}
 use Rattle.rules.specs.declared.Role.{Role}
-use Rattle.rules.specs.declared.Role.the-variants.{Nobody, Receiver, Sender}
+use Rattle.rules.specs.declared.Role.the-variants.{Nobody, Receiver, Sender, Asker, Replier}
 use Rattle.rules.specs.declared.Core.{Core}
 
-unfoldable isReceiver : Role → Bool
-isReceiver Nobody = false
-isReceiver Receiver = true
-isReceiver Sender = false
+-- what the role tells of service, reply and frame
+pub data RoleIs (p : Progress) (replies : Bool) (here : Place) : Role → Type 0 where
+  sends : drivesFrame p ≡ true → RoleIs p replies here Sender
+  asks : drivesFrame p ≡ false → isAnswered p ≡ true → RoleIs p replies here Asker
+  replying : drivesFrame p ≡ false → isAnswered p ≡ false → replies ≡ true → RoleIs p replies here Replier
+  receives : drivesFrame p ≡ false → isAnswered p ≡ false → replies ≡ false → underWay here ≡ true → RoleIs p replies here Receiver
+  rests : drivesFrame p ≡ false → isAnswered p ≡ false → replies ≡ false → underWay here ≡ false → RoleIs p replies here Nobody
 
-unfoldable isSender : Role → Bool
-isSender Nobody = false
-isSender Receiver = false
-isSender Sender = true
+module _ (p : Progress) (replies : Bool) (here : Place) where
+  pub role-is : RoleIs p replies here (roleOf p replies here)
+  unfolding roleOf
+  role-is =
+      picked P (drivesFrame p) Sender _ (λ d. sends d)
+      (λ d. picked P (isAnswered p) Asker _ (λ a. asks d a)
+      (λ a. picked P replies Replier _ (λ y. replying d a y)
+      (λ y. picked P (underWay here) Receiver Nobody (λ u. receives d a y u) (λ u. rests d a y u))))
+    where
+      P : Role → Type 0
+      P x = RoleIs p replies here x
 
-module _ (p : Progress) (here : Place) where
-  pub role-sender : drivesFrame p ≡ true → roleOf p here ≡ Sender
+  pub role-sender : drivesFrame p ≡ true → roleOf p replies here ≡ Sender
   unfolding roleOf
   role-sender d = rw d
 
-  pub role-other : drivesFrame p ≡ false → roleOf p here ≡ pick (underWay here) Receiver Nobody
+  pub role-asker : drivesFrame p ≡ false → isAnswered p ≡ true → roleOf p replies here ≡ Asker
   unfolding roleOf
-  role-other d = rw d
+  role-asker d a = rw (d, a)
 
-  pub sender-drives : roleOf p here ≡ Sender → drivesFrame p ≡ true
+  pub role-replier : drivesFrame p ≡ false → isAnswered p ≡ false → replies ≡ true → roleOf p replies here ≡ Replier
   unfolding roleOf
-  sender-drives e = go (drivesFrame p) (underWay here) (unfold isSender in ap isSender e)
-    where
-      go : (d u : Bool) → isSender (pick d Sender (pick u Receiver Nobody)) ≡ true → d ≡ true
-      go true u e = refl
-      go false true e = absurd (false≢true (unfold isSender in e))
-      go false false e = absurd (false≢true (unfold isSender in e))
+  role-replier d a y = rw (d, a, y)
 
-  pub nobody-apart : roleOf p here ≡ Nobody → drivesFrame p ≡ false
+  pub role-other : drivesFrame p ≡ false → isAnswered p ≡ false → replies ≡ false → roleOf p replies here ≡ pick (underWay here) Receiver Nobody
   unfolding roleOf
-  nobody-apart e = go (drivesFrame p) (underWay here) (unfold isSender in ap isSender e)
-    where
-      go : (d u : Bool) → isSender (pick d Sender (pick u Receiver Nobody)) ≡ false → d ≡ false
-      go true u e = absurd (false≢true (sym (unfold isSender in e)))
-      go false u e = refl
-
-  pub receiver-is : roleOf p here ≡ Receiver → (drivesFrame p ≡ false) × (underWay here ≡ true)
-  unfolding roleOf
-  receiver-is e = go (drivesFrame p) (underWay here) (unfold isReceiver in ap isReceiver e)
-    where
-      go : (d u : Bool) → isReceiver (pick d Sender (pick u Receiver Nobody)) ≡ true → (d ≡ false) × (u ≡ true)
-      go true u e = absurd (false≢true (unfold isReceiver in e))
-      go false true e = (refl, refl)
-      go false false e = absurd (false≢true (unfold isReceiver in e))
+  role-other d a y = rw (d, a, y)
 
 -- ---- for the attempt
 
@@ -76,14 +68,24 @@ judge-driving e v d = rw d
 -- ---- for the line
 
 module _ (k : Core) (w : Verdict) (v : ℕ) where
-  pub heard-nobody : drivesFrame (k .service .effort .progress) ≡ false → underWay (k .reception .place) ≡ false → heard k w v ≡ hearQuiet (k .line) v
+  pub heard-nobody : drivesFrame (k .service .effort .progress) ≡ false → isAnswered (k .service .effort .progress) ≡ false → k .reply .going ≡ false → underWay (k .reception .place) ≡ false
+      → heard k w v ≡ hearQuiet (k .line) v
   unfolding heard heardAs roleOf
-  heard-nobody d u = rw (d, u)
+  heard-nobody d a y u = rw (d, a, y, u)
 
-  pub heard-receiver : drivesFrame (k .service .effort .progress) ≡ false → underWay (k .reception .place) ≡ true → heard k w v ≡ hearFrame (k .reception) (longestOf k) v
+  pub heard-receiver : drivesFrame (k .service .effort .progress) ≡ false → isAnswered (k .service .effort .progress) ≡ false → k .reply .going ≡ false → underWay (k .reception .place) ≡ true
+      → heard k w v ≡ hearFrame (k .reception) (longestOf k) v
   unfolding heard heardAs roleOf
-  heard-receiver d u = rw (d, u)
+  heard-receiver d a y u = rw (d, a, y, u)
+
+  pub heard-asker : drivesFrame (k .service .effort .progress) ≡ false → isAnswered (k .service .effort .progress) ≡ true → heard k w v ≡ hearFrame (k .reception) (longestOf k) v
+  unfolding heard heardAs roleOf
+  heard-asker d a = rw (d, a)
 
   pub heard-sender : drivesFrame (k .service .effort .progress) ≡ true → heard k w v ≡ hearOwn w
   unfolding heard heardAs roleOf
   heard-sender d = rw d
+
+  pub heard-replier : drivesFrame (k .service .effort .progress) ≡ false → isAnswered (k .service .effort .progress) ≡ false → k .reply .going ≡ true → heard k w v ≡ hearOwn (judgeReply (k .reply) v)
+  unfolding heard heardAs roleOf
+  heard-replier d a y = rw (d, a, y)

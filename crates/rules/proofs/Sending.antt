@@ -2,6 +2,6 @@ pub mod Frames
 pub mod Beside
 pub mod Join
 pub mod Follow
-pub mod Raised
+pub mod Ends
 pub mod Bound
 pub mod Demand3

@@ -123,11 +123,13 @@ pub struct Coded {
 }
 
 // Resting: no service. Waiting: between attempts. Opening: a first level answered and not sampled. Sending: in an attempt.
+// Receiving: in an attempt whose request another module answers, so that it goes on as a reception.
 pub enum Stage {
     Resting,
     Waiting,
     Opening,
     Sending,
+    Receiving,
 }
 
 // The stage, and the slot of the frame that is driven next.
@@ -164,6 +166,7 @@ pub enum Verdict {
     Lost,
     Failed(u8),
     Done,
+    Answered,
 }
 
 // How a service ends, if it does.
@@ -173,6 +176,15 @@ pub enum Ending {
     Exhausted,
     Aborted,
     Rearbitrated,
+    Fulfilled,
+}
+
+// An immediate reply: whether one is under way, its channel, its frame and the slot of it that is driven next.
+pub struct ImmediateReply {
+    pub going: bool,
+    pub channel: u8,
+    pub at: u16,
+    pub frame: Coded,
 }
 
 // What the model is in the frame under way.
@@ -180,6 +192,8 @@ pub enum Role {
     Nobody,
     Receiver,
     Sender,
+    Asker,
+    Replier,
 }
 
 // ---- the controller
@@ -203,6 +217,7 @@ pub struct Core {
     pub line: Line,
     pub reception: Reception,
     pub service: Service,
+    pub reply: ImmediateReply,
 }
 
 pub struct Controller {

@@ -6,7 +6,7 @@ use mathlib.Core.Path.{_≡_, refl, sym}
 use lib.ListN.{getD}
 use Rattle.line.specs.Bits.{pick}
 use Rattle.line.proofs.Laws.{pick-same}
-use Rattle.rules.specs.Definitions.Registers.{lineControl, transmitted}
+use Rattle.rules.specs.Definitions.Registers.{both, lineControl, transmitted}
 use Rattle.rules.specs.Definitions.Reception.{underWay, startEnded}
 use Rattle.rules.specs.Definitions.Attempt.{waits}
 use Rattle.rules.specs.Definitions.Service.{started, roleOf}
@@ -14,11 +14,14 @@ use Rattle.rules.specs.Definitions.State.{idleDue, isActive, serving}
 use Rattle.rules.specs.Definitions.Slots.{chooses, choiceMade, startMade, followsOn, drives, drivesAs}
 use Rattle.rules.specs.Definitions.Run.{accept, answered}
 use Rattle.rules.specs.Definitions.Answers.{controller}
-use Rattle.rules.proofs.Logic.{both-false}
 use Rattle.rules.specs.declared.Role.{Role}
-use Rattle.rules.specs.declared.Role.the-variants.{Nobody, Receiver, Sender}
+use Rattle.rules.specs.declared.Role.the-variants.{Nobody, Receiver, Sender, Asker, Replier}
 use Rattle.rules.specs.declared.Core.{Core}
 use Rattle.slots.specs.Follow.{begins, driven, drivenAs}
+
+both-false : (a : Bool) → both a false ≡ false
+both-false true = refl
+both-false false = refl
 
 -- no idle waits, a frame is under way, and its start sequence has not just ended
 waits-not : (k : Core) → begins k ≡ false → k .activity .waiting ≡ false
@@ -60,16 +63,18 @@ pub nothing-follows : (m : List ℕ) (k : Core) → begins k ≡ false → follo
 unfolding followsOn
 nothing-follows m k e = rw (no-idle k e, no-choice m k e, no-start m k e)
 
-driven-as : (x : Role) (k : Core) → drivenAs x (k .service .effort .progress) (k .reception) (k .service .effort .frame) ≡ drivesAs x k
+driven-as : (x : Role) (k : Core) → drivenAs x (k .service .effort .progress) (k .reception) (k .service .effort .frame) (k .reply) ≡ drivesAs x k
 unfolding drivenAs drivesAs
 driven-as Nobody k = refl
 driven-as Receiver k = refl
 driven-as Sender k = refl
+driven-as Asker k = refl
+driven-as Replier k = refl
 
-driven-is : (k : Core) → driven (k .service .effort .progress) (k .reception) (k .service .effort .frame) ≡ drives k
+driven-is : (k : Core) → driven (k .service .effort .progress) (k .reception) (k .service .effort .frame) (k .reply) ≡ drives k
 unfolding driven drives
-driven-is k = driven-as (roleOf (k .service .effort .progress) (k .reception .place)) k
+driven-is k = driven-as (roleOf (k .service .effort .progress) (k .reply .going) (k .reception .place)) k
 
-pub answered-is : (m : List ℕ) (k : Core) (level : ℕ) → level ≡ driven (k .service .effort .progress) (k .reception) (k .service .effort .frame) → accept (transmitted (getD m lineControl 0) level) (controller m k) ≡ answered (controller m k)
+pub answered-is : (m : List ℕ) (k : Core) (level : ℕ) → level ≡ driven (k .service .effort .progress) (k .reception) (k .service .effort .frame) (k .reply) → accept (transmitted (getD m lineControl 0) level) (controller m k) ≡ answered (controller m k)
 unfolding answered
 answered-is m k level is = rw (is, driven-is k)

@@ -10,6 +10,7 @@ use registers::Map;
 use rules::Coded;
 use rules::Core;
 use rules::CoreOutcome;
+use rules::ImmediateReply;
 use rules::Progress;
 use rules::Reception;
 use rules::Refusal;
@@ -88,14 +89,16 @@ fn follows_on(m: &[u8; 256], k: Core) -> Core
 
 // ---- the level for the next slot
 
-fn drives(p: Progress, here: Reception, frame: Coded) -> u8
-    ensures { λ r. ⌜ r ≡ follow.driven p here frame ⌝ }
+fn drives(p: Progress, here: Reception, frame: Coded, y: ImmediateReply) -> u8
+    ensures { λ r. ⌜ r ≡ follow.driven p here frame y ⌝ }
 {
-    let x = place::role_of(p, here.place);
+    let x = place::role_of(p, y.going, here.place);
     match x {
         Role::Nobody => 1,
         Role::Receiver => hearing::receiver_level(here),
         Role::Sender => driver::level_at(frame, p.at),
+        Role::Asker => hearing::receiver_level(here),
+        Role::Replier => driver::level_at(y.frame, y.at),
     }
 }
 
@@ -141,7 +144,7 @@ pub fn slot_on(m: &mut [u8; 256], k: Core, levels: u16) -> CoreOutcome
             let p = t.service.effort.progress;
             let here = t.reception;
             let frame = t.service.effort.frame;
-            return answered(m, t, drives(p, here, frame));
+            return answered(m, t, drives(p, here, frame, t.reply));
         }
         return answered(m, k, 1);
     }

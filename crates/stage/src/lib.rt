@@ -38,6 +38,7 @@ pub fn in_service(p: Progress) -> bool
         Stage::Waiting => true, // also between attempts
         Stage::Opening => true,
         Stage::Sending => true,
+        Stage::Receiving => true,
     }
 }
 
@@ -51,6 +52,7 @@ pub fn between_attempts(p: Progress) -> bool
         Stage::Waiting => true,
         Stage::Opening => true, // not sampled yet
         Stage::Sending => false, // in an attempt
+        Stage::Receiving => false, // so is an answered one
     }
 }
 
@@ -64,6 +66,7 @@ pub fn waits(p: Progress) -> bool
         Stage::Waiting => true, // nothing answered
         Stage::Opening => false, // a level answered
         Stage::Sending => false,
+        Stage::Receiving => false,
     }
 }
 
@@ -77,5 +80,20 @@ pub fn drives_frame(p: Progress) -> bool
         Stage::Waiting => false, // nothing to drive
         Stage::Opening => true, // the first level
         Stage::Sending => true,
+        Stage::Receiving => false, // the other module's frame
+    }
+}
+
+// In an attempt whose request is being answered.
+pub fn is_answered(p: Progress) -> bool
+    ensures { λ r. ⌜ r ≡ rule.isAnswered p ⌝ }
+{
+    let stage = p.stage;
+    match stage {
+        Stage::Resting => false,
+        Stage::Waiting => false,
+        Stage::Opening => false,
+        Stage::Sending => false, // no answer yet
+        Stage::Receiving => true, // the frame that answers it
     }
 }

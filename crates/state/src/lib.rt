@@ -1,9 +1,12 @@
 // The state but for the memory map: its modes, reset, a waiting idle (01, Memory map).
 ghost use mathlib.Core.Path.{_≡_};
 ghost use Rattle.rules.specs.Definitions.State as rule;
+ghost use Rattle.rules.specs.Definitions.Service as service_rule;
 use registers::Map;
 use rules::Activity;
+use rules::Coded;
 use rules::Core;
+use rules::ImmediateReply;
 use rules::Mode;
 use rules::Service;
 
@@ -35,6 +38,22 @@ pub fn reset_core() -> Core
         line: free_line::unsettled(),
         reception: reception::quiet(),
         service: ending::resting(),
+        reply: no_reply(),
+    }
+}
+
+// No immediate reply under way.
+pub fn no_reply() -> ImmediateReply
+    ensures { λ r. ⌜ r ≡ service_rule.noReply ⌝ }
+{
+    ImmediateReply {
+        going: false,
+        channel: 0,
+        at: 0,
+        frame: Coded {
+            n: 0,
+            bytes: [0u8; line::CODED_BYTES],
+        },
     }
 }
 
@@ -47,6 +66,7 @@ fn idled(k: Core) -> Core
     let mut t = k;
     t.activity = in_mode(Mode::Idle, false);
     t.reception = reception::quiet();
+    t.reply = no_reply();
     t
 }
 

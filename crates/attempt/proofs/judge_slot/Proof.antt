@@ -17,5 +17,7 @@ judge-slot-spec =
     (λ c. simp (lt-ltb _ _ (c .if2 .taken), eq-eqb _ _ (c .before .before .if1 .taken), ← (c .before .before .before .due .ensures)))
     (λ c. simp (le-ltb _ _ (c .if2 .left), eq-eqb _ _ (c .before .before .if1 .taken), ← (c .before .before .before .due .ensures)))
     (λ c κs. tt)
+    (λ c. simp (c .if3 .taken, ne-eqb _ _ (c .before .before .if1 .left), ← (c .before .is-request .ensures), ← (c .before .before .before .due .ensures)))
     (λ c κs. tt)
-    (λ c. simp (ne-eqb _ _ (c .before .before .if1 .left), ← (c .difference .ensures), ← (c .before .level-at .ensures), ← (c .before .before .before .due .ensures))))
+    (λ c κs. tt)
+    (λ c. simp (c .before .before .if3 .left, ne-eqb _ _ (c .before .before .before .before .if1 .left), ← (c .difference .ensures), ← (c .before .level-at .ensures), ← (c .before .before .before .is-request .ensures), ← (c .before .before .before .before .before .due .ensures))))

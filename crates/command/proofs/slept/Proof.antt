@@ -8,4 +8,5 @@ slept-spec =
     tie.close (tie.spec
     (λ c κs. tt)
     (λ c κs. tt)
-    (λ c. simp (← (c .resting .ensures), ← (c .before .quiet .ensures))))
+    (λ c κs. tt)
+    (λ c. simp (← (c .no-reply .ensures), ← (c .before .resting .ensures), ← (c .before .before .quiet .ensures))))

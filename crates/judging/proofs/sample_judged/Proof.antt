@@ -1,6 +1,7 @@
 use mathlib.Core.Path.{_∙_}
 use Rattle.rules.specs.Definitions.Slots.{coreJudged, serviceJudged}
 use Rattle.judging.specs.Ordinary.{memoryAfter, coreAfter}
+use Rattle.judging.proofs.Ways.{reply-marked}
 use Rattle.judging.proofs.sample_judged.Statement.{statement}
 use Rattle.judging.proofs.sample_judged.Tie as tie
 
@@ -9,12 +10,33 @@ unfolding memoryAfter coreAfter coreJudged serviceJudged
 sample-judged-spec =
     tie.close (tie.spec
     (λ c κs. tt)
-    (λ c κs. let j = c .before .before .before .judge .ensures in (j .0, rw (j .1 .1 .0, j .1 .0)))
+    (λ c κs.
+    let a = c .before .before .before .before .args in
+    let j = c .before .before .before .judge .ensures in
+    let e = j .1 .1 .1 .1 .0 in
+    let h = j .1 .1 .1 .1 .1 in (
+      j .0,
+      (rw (e, j .1 .0), rw (j .1 .1 .0, h) (reply-marked (a .k) (a .v))),
+    ))
     (λ c κs. tt)
     (λ c κs. tt)
+    (λ c κs. c .before .before .before .before .before .before .before .before .before .before .judge .ensures .1 .1 .1 .0)
     (λ c.
-    let j = c .before .before .before .before .before .before .before .before .before .judge .ensures in
-    let y = c .before .before .before .before .before .take-effect .ensures in (
-      y .0 ∙ rw (j .1 .0, j .1 .1 .1),
-      rw (c .reception-judged .ensures, c .before .before .line-after .ensures, y .1 .0, y .1 .1, y .0, j .1 .0, j .1 .1 .1),
+    let j = c .before .before .before .before .before .before .before .before .before .before .before .judge .ensures in
+    let y = c .before .before .before .before .before .before .before .take-effect .ensures in
+    let w = j .1 .0 in
+    let q = j .1 .1 .0 in
+    let h = j .1 .1 .1 .1 .1 in (
+      y .0 ∙ rw (w, q, h),
+      rw (
+      c .reply-after .ensures,
+      c .before .before .reception-judged .ensures,
+      c .before .before .before .before .line-after .ensures,
+      y .1 .0,
+      y .1 .1,
+      y .0,
+      j .0,
+      w,
+      q,
+      h),
     )))

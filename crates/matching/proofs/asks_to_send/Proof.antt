@@ -10,4 +10,5 @@ asks-to-send-spec =
     (λ c κs. tt)
     (λ c κs. tt)
     (λ c κs. tt)
-    (λ c. simp (← (c .cher .ensures), ← (c .before .deferred-reply .ensures), ← (c .before .before .transmit-message .ensures), ← (c .before .before .before .status-bits .ensures))))
+    (λ c κs. tt)
+    (λ c. simp (← (c .cher .ensures), ← (c .before .reply-request .ensures), ← (c .before .before .deferred-reply .ensures), ← (c .before .before .before .transmit-message .ensures), ← (c .before .before .before .before .status-bits .ensures))))

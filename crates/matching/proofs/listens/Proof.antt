@@ -10,4 +10,5 @@ listens-spec =
     (λ c κs. tt)
     (λ c κs. tt)
     (λ c κs. tt)
-    (λ c. simp (← (c .extension .ensures), ← (c .before .request-detection .ensures), ← (c .before .before .receive-message .ensures), ← (c .before .before .before .status-bits .ensures))))
+    (λ c κs. tt)
+    (λ c. simp (← (c .extension .ensures), ← (c .before .awaits-reply .ensures), ← (c .before .before .request-detection .ensures), ← (c .before .before .before .receive-message .ensures), ← (c .before .before .before .before .status-bits .ensures))))

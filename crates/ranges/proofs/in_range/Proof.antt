@@ -24,9 +24,21 @@ add-result-2 c = search needs
 sub-result : tie.Need-sub-result
 sub-result c = search needs
 
+cast-result-2 : tie.Need-cast-result-2
+cast-result-2 c = search needs
+
+mul-result-3 : tie.Need-mul-result-3
+mul-result-3 c = search needs
+
+add-result-3 : tie.Need-add-result-3
+add-result-3 c = search needs
+
+sub-result-2 : tie.Need-sub-result-2
+sub-result-2 c = search needs
+
 returns : tie.Need-returns
 unfolding inRange ranges size
-returns c = joined-within true (ranges (c .before .before .before .before .before .before .before .before .before .before .before .before .before .before .before .before .before .args .k))
+returns c = joined-within true (ranges (c .before .before .before .before .before .before .before .before .before .before .before .before .before .before .before .before .before .before .before .before .args .k))
 
 pub in-range-spec : {M : Type 1} → statement M
-in-range-spec = tie.close (tie.spec mul-result add-result cast-result mul-result-2 add-result-2 sub-result returns)
+in-range-spec = tie.close (tie.spec mul-result add-result cast-result mul-result-2 add-result-2 sub-result cast-result-2 mul-result-3 add-result-3 sub-result-2 returns)

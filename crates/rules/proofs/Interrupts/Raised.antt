@@ -1,5 +1,5 @@
 -- Interrupts.antt, the six bits: the flags after every event, and what turns one of them to 1.
---   endedFlags, deliveredFlags == the flags after the end of a service, and after a delivery        interrupts == the claim, entire
+--   endedFlags, deliveredFlags, repliedFlags == the flags after the end of a service, after a delivery, and after a slot of the reply        interrupts == the claim, entire
 use Prim.Native.Nat.{ℕ, _+_, _/_, _%_, _≤_}
 use mathlib.Core.Bool.{Bool, true, false, not, false≢true}
 use mathlib.Core.List.{List}
@@ -18,27 +18,29 @@ use Rattle.rules.specs.Statements.Bits.{bitAt}
 use Rattle.rules.specs.Definitions.Reception.{underWay, isUnderWay, unsettled}
 use Rattle.rules.specs.Definitions.Hearing.{hearIn, hearFrame}
 use Rattle.rules.specs.Definitions.Delivery.{delivered, deliveryTo, deliveryOf, receiveError, reportStored, reportHeard, reportDelivered}
-use Rattle.rules.specs.Definitions.Attempt.{largest, moreAttempts, judge, atStage, betweenAttempts, isBetween, slotSpent, lostSpent, errorSpent, advance, exhausted}
-use Rattle.rules.specs.Definitions.Service.{stopped, endingOf, settled, reportSending, reportJudged, reportEnded}
+use Rattle.rules.specs.Definitions.Attempt.{largest, moreAttempts, atStage, betweenAttempts, isBetween, isAnswered, isAnswering, slotSpent, lostSpent, errorSpent, advance, exhausted}
+use Rattle.rules.specs.Definitions.Service.{stopped, endingOf, settled, reportSending, reportJudged, reportEnded, fulfils, reportReplied}
 use Rattle.rules.specs.Definitions.State.{isActive, inMode, resetCore, idleDue, slept, idleAsked, activated}
-use Rattle.rules.specs.Definitions.Slots.{roleIn, heardAs, heard, delivers, serviceJudged, ending, reportAfter, memoryJudged, coreJudged, startMade, followsOn, sampleOf, judgedSlot, sampledSlot, activeSlot}
+use Rattle.rules.specs.Definitions.Slots.{roleIn, replyVerdict, heardAs, heard, delivers, verdictAs, verdict, serviceJudged, ending, reportAfter, memoryJudged, coreJudged, startMade, followsOn, sampleOf, judgedSlot, sampledSlot, activeSlot}
 use Rattle.rules.specs.Definitions.Host.{resetAll, resets, sleeps, modeCommanded, flagsCleared, coreWritten, serviceAsked, stoppedCore, byteWritten, hostWritten}
 use Rattle.rules.specs.Definitions.Run.{fresh, accept, answered, restedSlot, step, next, after}
 use Rattle.rules.proofs.Ranges.Limits.{Fine}
 use Rattle.rules.proofs.Logic.{both-true, clash, not-true, unless-false, left}
-use Rattle.rules.proofs.Judged.{went, lost, broke, done, Tried, unjudged, judged, tried}
+use Rattle.rules.proofs.Judged as judgement
+use Rattle.rules.proofs.Judged.{went, lost, broke, done, Tried, unjudged, awaited, judged}
 use Rattle.rules.proofs.Ranges.Bytes.{at-below}
-use Rattle.rules.proofs.Ranges.Reach.{fine-after}
+use Rattle.rules.proofs.Ranges.Reach.{verdict-tried, fine-after}
 use Rattle.rules.specs.Statements.Tally.{none}
 use Rattle.rules.proofs.Sending.Follow.{idle-report, choice-flags, isExhausted}
-use Rattle.rules.specs.Statements.Observer.{accepted}
+use Rattle.rules.specs.Statements.Observer.{isStored, accepted}
 use Rattle.rules.proofs.Steps as steps
 use Rattle.rules.proofs.Steps.{Step, step-of, refused-next, refused-not, accepted-next}
-use Rattle.rules.specs.Statements.OwnFrames.{sends, verdictIn}
-use Rattle.rules.specs.Statements.Settled.{isStored, isSpoiled}
-use Rattle.rules.proofs.Roles.{role-other}
-use Rattle.rules.proofs.OwnFrames.EveryRun.{own-delivers, slot-sampled, effort-asked}
-use Rattle.rules.specs.Statements.Interrupts.{flagsOf, Sampled, Received, hearingIn, fitting, rak, Resets, by-pin, by-command, Exhausts, exhausts, LastError, last, Completes, completes, Spoils, fault, overflow, Stores, stores, Raised, Interrupts}
+use Rattle.rules.specs.Statements.OwnFrames.{verdictIn, replyIn}
+use Rattle.rules.specs.Statements.Settled.{isSpoiled}
+use Rattle.rules.proofs.Roles.{RoleIs, sends, asks, replying, receives, rests, role-is}
+use Rattle.rules.proofs.OwnFrames.Steady.{effort-asked}
+use Rattle.rules.proofs.OwnFrames.EveryRun.{slot-sampled}
+use Rattle.rules.specs.Statements.Interrupts.{flagsOf, Sampled, ownFrame, Received, hearingIn, fitting, rak, Resets, by-pin, by-command, Exhausts, exhausts, LastError, last, Completes, completes, replied, Spoils, fault, overflow, broken, Stores, stores, Raised, Interrupts}
 use Rattle.rules.proofs.Interrupts.Line as line
 use Rattle.rules.specs.declared.Flags.{Flags}
 use Rattle.rules.specs.declared.Report.{Report}
@@ -52,10 +54,14 @@ use Rattle.rules.specs.declared.Delivery.the-variants.{Nothing, Stored, 
 use Rattle.rules.specs.declared.Effort.{Effort}
 use Rattle.rules.specs.declared.Service.{Service}
 use Rattle.rules.specs.declared.Verdict.{Verdict}
-use Rattle.rules.specs.declared.Verdict.the-variants.{Unjudged, Goes, Lost, Failed, Done}
+use Rattle.rules.specs.declared.Verdict.the-variants.{Unjudged, Goes, Lost, Failed, Done, Answered}
 use Rattle.rules.specs.declared.Ending.{Ending}
-use Rattle.rules.specs.declared.Ending.the-variants.{Going, Sent, Exhausted, Aborted, Rearbitrated}
-use Rattle.rules.specs.declared.Role.the-variants.{Nobody, Receiver}
+use Rattle.rules.specs.declared.Ending.the-variants.{Going, Sent, Exhausted, Aborted, Rearbitrated, Fulfilled}
+use Rattle.rules.specs.declared.Stage.{Stage}
+use Rattle.rules.specs.declared.Stage.the-variants.{Resting, Waiting, Opening, Sending, Receiving}
+use Rattle.rules.specs.declared.Progress.{Progress}
+use Rattle.rules.specs.declared.Role.{Role}
+use Rattle.rules.specs.declared.Role.the-variants.{Nobody, Receiver, Sender, Asker, Replier}
 use Rattle.rules.specs.declared.Mode.the-variants.{Active}
 use Rattle.rules.specs.declared.Core.{Core}
 use Rattle.rules.specs.declared.Controller.{Controller}
@@ -70,12 +76,30 @@ endedFlags Sent f = withTok f true
 endedFlags Exhausted f = withTe f true
 endedFlags Aborted f = f
 endedFlags Rearbitrated f = f
+endedFlags Fulfilled f = f
 
 unfoldable deliveredFlags : Delivery → Bool → Flags → Flags
 deliveredFlags Nothing asked f = f
 deliveredFlags Stored asked f = pick asked (withRok f true) (withRnok f true)
 deliveredFlags Overflowed asked f = withRe f true
 deliveredFlags Spoiled asked f = withRe f true
+
+unfoldable pub repliedFlags : Verdict → Flags → Flags
+repliedFlags Unjudged f = f
+repliedFlags Goes f = f
+repliedFlags Lost f = f
+repliedFlags (Failed code) f = withRe f true
+repliedFlags Done f = withTok f true
+repliedFlags Answered f = f
+
+flags-replied : (q : Verdict) (r : Report) (channel : ℕ) → reportReplied q r channel .flags ≡ repliedFlags q (r .flags)
+unfolding reportReplied repliedFlags
+flags-replied Unjudged r channel = refl
+flags-replied Goes r channel = refl
+flags-replied Lost r channel = refl
+flags-replied (Failed code) r channel = refl
+flags-replied Done r channel = refl
+flags-replied Answered r channel = refl
 
 flags-ended : (x : Ending) (r : Report) (s : Service) → reportEnded x r s .flags ≡ endedFlags x (r .flags)
 unfolding reportEnded endedFlags
@@ -84,6 +108,7 @@ flags-ended Sent r s = refl
 flags-ended Exhausted r s = refl
 flags-ended Aborted r s = refl
 flags-ended Rearbitrated r s = refl
+flags-ended Fulfilled r s = refl
 
 flags-delivered : (d : Delivery) (r : Report) (x : Reception) → reportDelivered d r x .flags ≡ deliveredFlags d (acknowledgeAsked (getD (x .bytes) 1 0)) (r .flags)
 unfolding reportDelivered reportStored receiveError deliveredFlags
@@ -99,6 +124,7 @@ flags-verdict Goes r s = refl
 flags-verdict Lost r s = refl
 flags-verdict (Failed code) r s = refl
 flags-verdict Done r s = refl
+flags-verdict Answered r s = refl
 
 flags-heard : (h : Hearing) (r : Report) → reportHeard h r .flags ≡ r .flags
 unfolding reportHeard
@@ -110,34 +136,48 @@ flags-heard Good r = refl
 unfoldable pub asked : Reception → Bool
 asked r = acknowledgeAsked (getD (r .bytes) 1 0)
 
-flags-after : (k : Core) (w : Verdict) (h : Hearing)
-    → reportAfter k w h .flags ≡ endedFlags (ending k w) (deliveredFlags (delivers (roleIn k) h (k .reception)) (asked (k .reception)) (k .report .flags))
+flags-after : (k : Core) (w q : Verdict) (h : Hearing)
+    → reportAfter k w q h .flags ≡ repliedFlags q (endedFlags (ending k w h) (deliveredFlags (delivers (roleIn k) h (k .reception)) (asked (k .reception)) (k .report .flags)))
 unfolding reportAfter asked
-flags-after k w h =
-    flags-ended (ending k w) (reportJudged w (reportDelivered (delivers (roleIn k) h (k .reception)) (reportHeard h (k .report)) (k .reception)) (serviceJudged w (k .service))) (serviceJudged w (k .service))
-    ∙ ap (endedFlags (ending k w))
-    (flags-verdict w (reportDelivered (delivers (roleIn k) h (k .reception)) (reportHeard h (k .report)) (k .reception)) (serviceJudged w (k .service))
+flags-after k w q h =
+    let s : Service = serviceJudged w (k .service) in
+    let d : Report = reportDelivered (delivers (roleIn k) h (k .reception)) (reportHeard h (k .report)) (k .reception) in
+    flags-replied q (reportEnded (ending k w h) (reportJudged w d s) s) (k .reply .channel)
+    ∙ ap (repliedFlags q)
+    (flags-ended (ending k w h) (reportJudged w d s) s
+    ∙ ap (endedFlags (ending k w h))
+    (flags-verdict w d s
     ∙ flags-delivered (delivers (roleIn k) h (k .reception)) (reportHeard h (k .report)) (k .reception)
-    ∙ ap (deliveredFlags (delivers (roleIn k) h (k .reception)) (acknowledgeAsked (getD (k .reception .bytes) 1 0))) (flags-heard h (k .report)))
+    ∙ ap (deliveredFlags (delivers (roleIn k) h (k .reception)) (acknowledgeAsked (getD (k .reception .bytes) 1 0))) (flags-heard h (k .report))))
 
 flags-follow : (m : List ℕ) (k : Core) → followsOn m k .report .flags ≡ k .report .flags
 unfolding followsOn startMade
 flags-follow m k = choice-flags m (idleDue k) ∙ ap (λ (x : Report). x .flags) (idle-report k)
 
 abbrev pub verdictOf : Controller → ℕ → Verdict
-verdictOf c v = judge (c .core .service .effort) v
+verdictOf c v = verdict (c .core) v
+
+abbrev pub replyOf : Controller → ℕ → Verdict
+replyOf c v = replyVerdict (roleIn (c .core)) (c .core) v
+
+abbrev pub heardBy : Controller → ℕ → Hearing
+heardBy c v = heard (c .core) (verdictOf c v) v
+
+abbrev pub endingIn : Controller → ℕ → Ending
+endingIn c v = ending (c .core) (verdictOf c v) (heardBy c v)
 
 abbrev pub deliveryIn : Controller → ℕ → Delivery
-deliveryIn c v = delivers (roleIn (c .core)) (heard (c .core) (verdictOf c v) v) (c .core .reception)
+deliveryIn c v = delivers (roleIn (c .core)) (heardBy c v) (c .core .reception)
 
 flags-sampled : (c : Controller) (v : ℕ)
-    → sampledSlot c v .core .report .flags ≡ endedFlags (ending (c .core) (verdictOf c v)) (deliveredFlags (deliveryIn c v) (asked (c .core .reception)) (flagsOf c))
+    → sampledSlot c v .core .report .flags ≡ repliedFlags (replyOf c v) (endedFlags (endingIn c v) (deliveredFlags (deliveryIn c v) (asked (c .core .reception)) (flagsOf c)))
 unfolding sampledSlot judgedSlot coreJudged
 flags-sampled c v =
     let w : Verdict = verdictOf c v in
-    let h : Hearing = heard (c .core) w v in
-    let m : List ℕ = memoryJudged (c .memory) (c .core) w h in
-    flags-follow m (coreJudged m (c .core) w h v) ∙ flags-after (c .core) w h
+    let q : Verdict = replyOf c v in
+    let h : Hearing = heardBy c v in
+    let m : List ℕ = memoryJudged (c .memory) (c .core) w q h in
+    flags-follow m (coreJudged m (c .core) w q h v) ∙ flags-after (c .core) w q h
 
 -- ---- one bit of them
 
@@ -148,6 +188,16 @@ ended-same g p q Sent f = p f
 ended-same g p q Exhausted f = q f
 ended-same g p q Aborted f = refl
 ended-same g p q Rearbitrated f = refl
+ended-same g p q Fulfilled f = refl
+
+replied-same : (g : Flags → Bool) → ((f : Flags) → g (withTok f true) ≡ g f) → ((f : Flags) → g (withRe f true) ≡ g f) → (x : Verdict) (f : Flags) → g (repliedFlags x f) ≡ g f
+unfolding repliedFlags
+replied-same g p q Unjudged f = refl
+replied-same g p q Goes f = refl
+replied-same g p q Lost f = refl
+replied-same g p q (Failed code) f = q f
+replied-same g p q Done f = p f
+replied-same g p q Answered f = refl
 
 delivered-same : (g : Flags → Bool) → ((f : Flags) → g (withRe f true) ≡ g f) → ((f : Flags) → g (withRok f true) ≡ g f) → ((f : Flags) → g (withRnok f true) ≡ g f)
     → (d : Delivery) (a : Bool) (f : Flags) → g (deliveredFlags d a f) ≡ g f
@@ -163,6 +213,42 @@ isSent Sent = true
 isSent Exhausted = false
 isSent Aborted = false
 isSent Rearbitrated = false
+isSent Fulfilled = false
+
+-- the reply is sent whole, or ended by an error
+unfoldable pub isWhole : Verdict → Bool
+isWhole Unjudged = false
+isWhole Goes = false
+isWhole Lost = false
+isWhole (Failed code) = false
+isWhole Done = true
+isWhole Answered = false
+
+unfoldable pub isBroken : Verdict → Bool
+isBroken Unjudged = false
+isBroken Goes = false
+isBroken Lost = false
+isBroken (Failed code) = true
+isBroken Done = false
+isBroken Answered = false
+
+replied-tok : (q : Verdict) (f : Flags) → repliedFlags q f .tok ≡ pick (isWhole q) true (f .tok)
+unfolding repliedFlags isWhole
+replied-tok Unjudged f = refl
+replied-tok Goes f = refl
+replied-tok Lost f = refl
+replied-tok (Failed code) f = refl
+replied-tok Done f = refl
+replied-tok Answered f = refl
+
+replied-re : (q : Verdict) (f : Flags) → repliedFlags q f .re ≡ pick (isBroken q) true (f .re)
+unfolding repliedFlags isBroken
+replied-re Unjudged f = refl
+replied-re Goes f = refl
+replied-re Lost f = refl
+replied-re (Failed code) f = refl
+replied-re Done f = refl
+replied-re Answered f = refl
 
 ended-tok : (x : Ending) (f : Flags) → endedFlags x f .tok ≡ pick (isSent x) true (f .tok)
 unfolding endedFlags isSent
@@ -171,6 +257,7 @@ ended-tok Sent f = refl
 ended-tok Exhausted f = refl
 ended-tok Aborted f = refl
 ended-tok Rearbitrated f = refl
+ended-tok Fulfilled f = refl
 
 ended-te : (x : Ending) (f : Flags) → endedFlags x f .te ≡ pick (isExhausted x) true (f .te)
 unfolding endedFlags isExhausted
@@ -179,6 +266,7 @@ ended-te Sent f = refl
 ended-te Exhausted f = refl
 ended-te Aborted f = refl
 ended-te Rearbitrated f = refl
+ended-te Fulfilled f = refl
 
 delivered-re : (d : Delivery) (a : Bool) (f : Flags) → deliveredFlags d a f .re ≡ pick (isSpoiled d) true (f .re)
 unfolding deliveredFlags isSpoiled
@@ -208,35 +296,42 @@ module _ (c : Controller) (v : ℕ) where
   abbrev flags : Flags
   flags = sampledSlot c v .core .report .flags
 
+  abbrev ended : Flags
+  ended = endedFlags (endingIn c v) (deliveredFlags (deliveryIn c v) (asked (c .core .reception)) (flagsOf c))
+
   pub slot-rst : flags .rst ≡ flagsOf c .rst
   slot-rst =
-      ap (λ (f : Flags). f .rst) (flags-sampled c v) ∙ ended-same (λ f. f .rst) (λ f. refl) (λ f. refl) (ending (c .core) (verdictOf c v)) _
+      ap (λ (f : Flags). f .rst) (flags-sampled c v) ∙ replied-same (λ f. f .rst) (λ f. refl) (λ f. refl) (replyOf c v) ended
+      ∙ ended-same (λ f. f .rst) (λ f. refl) (λ f. refl) (endingIn c v) _
       ∙ delivered-same (λ f. f .rst) (λ f. refl) (λ f. refl) (λ f. refl) (deliveryIn c v) (asked (c .core .reception)) (flagsOf c)
 
-  pub slot-tok : flags .tok ≡ pick (isSent (ending (c .core) (verdictOf c v))) true (flagsOf c .tok)
+  pub slot-tok : flags .tok ≡ pick (isWhole (replyOf c v)) true (pick (isSent (endingIn c v)) true (flagsOf c .tok))
   slot-tok =
-      ap (λ (f : Flags). f .tok) (flags-sampled c v) ∙ ended-tok (ending (c .core) (verdictOf c v)) _
-      ∙ ap (λ (b : Bool). pick (isSent (ending (c .core) (verdictOf c v))) true b) (delivered-same (λ f. f .tok) (λ f. refl) (λ f. refl) (λ f. refl) (deliveryIn c v) (asked (c .core .reception)) (flagsOf c))
+      ap (λ (f : Flags). f .tok) (flags-sampled c v) ∙ replied-tok (replyOf c v) ended
+      ∙ ap (λ (b : Bool). pick (isWhole (replyOf c v)) true b)
+      (ended-tok (endingIn c v) _
+      ∙ ap (λ (b : Bool). pick (isSent (endingIn c v)) true b) (delivered-same (λ f. f .tok) (λ f. refl) (λ f. refl) (λ f. refl) (deliveryIn c v) (asked (c .core .reception)) (flagsOf c)))
 
-  pub slot-te : flags .te ≡ pick (isExhausted (ending (c .core) (verdictOf c v))) true (flagsOf c .te)
+  pub slot-te : flags .te ≡ pick (isExhausted (endingIn c v)) true (flagsOf c .te)
   slot-te =
-      ap (λ (f : Flags). f .te) (flags-sampled c v) ∙ ended-te (ending (c .core) (verdictOf c v)) _
-      ∙ ap (λ (b : Bool). pick (isExhausted (ending (c .core) (verdictOf c v))) true b) (delivered-same (λ f. f .te) (λ f. refl) (λ f. refl) (λ f. refl) (deliveryIn c v) (asked (c .core .reception)) (flagsOf c))
+      ap (λ (f : Flags). f .te) (flags-sampled c v) ∙ replied-same (λ f. f .te) (λ f. refl) (λ f. refl) (replyOf c v) ended ∙ ended-te (endingIn c v) _
+      ∙ ap (λ (b : Bool). pick (isExhausted (endingIn c v)) true b) (delivered-same (λ f. f .te) (λ f. refl) (λ f. refl) (λ f. refl) (deliveryIn c v) (asked (c .core .reception)) (flagsOf c))
 
-  pub slot-re : flags .re ≡ pick (isSpoiled (deliveryIn c v)) true (flagsOf c .re)
+  pub slot-re : flags .re ≡ pick (isBroken (replyOf c v)) true (pick (isSpoiled (deliveryIn c v)) true (flagsOf c .re))
   slot-re =
-      ap (λ (f : Flags). f .re) (flags-sampled c v) ∙ ended-same (λ f. f .re) (λ f. refl) (λ f. refl) (ending (c .core) (verdictOf c v)) _
-      ∙ delivered-re (deliveryIn c v) (asked (c .core .reception)) (flagsOf c)
+      ap (λ (f : Flags). f .re) (flags-sampled c v) ∙ replied-re (replyOf c v) ended
+      ∙ ap (λ (b : Bool). pick (isBroken (replyOf c v)) true b)
+      (ended-same (λ f. f .re) (λ f. refl) (λ f. refl) (endingIn c v) _ ∙ delivered-re (deliveryIn c v) (asked (c .core .reception)) (flagsOf c))
 
   pub slot-rok : flags .rok ≡ pick (both (isStored (deliveryIn c v)) (asked (c .core .reception))) true (flagsOf c .rok)
   slot-rok =
-      ap (λ (f : Flags). f .rok) (flags-sampled c v) ∙ ended-same (λ f. f .rok) (λ f. refl) (λ f. refl) (ending (c .core) (verdictOf c v)) _
-      ∙ delivered-rok (deliveryIn c v) (asked (c .core .reception)) (flagsOf c)
+      ap (λ (f : Flags). f .rok) (flags-sampled c v) ∙ replied-same (λ f. f .rok) (λ f. refl) (λ f. refl) (replyOf c v) ended
+      ∙ ended-same (λ f. f .rok) (λ f. refl) (λ f. refl) (endingIn c v) _ ∙ delivered-rok (deliveryIn c v) (asked (c .core .reception)) (flagsOf c)
 
   pub slot-rnok : flags .rnok ≡ pick (both (isStored (deliveryIn c v)) (not (asked (c .core .reception)))) true (flagsOf c .rnok)
   slot-rnok =
-      ap (λ (f : Flags). f .rnok) (flags-sampled c v) ∙ ended-same (λ f. f .rnok) (λ f. refl) (λ f. refl) (ending (c .core) (verdictOf c v)) _
-      ∙ delivered-rnok (deliveryIn c v) (asked (c .core .reception)) (flagsOf c)
+      ap (λ (f : Flags). f .rnok) (flags-sampled c v) ∙ replied-same (λ f. f .rnok) (λ f. refl) (λ f. refl) (replyOf c v) ended
+      ∙ ended-same (λ f. f .rnok) (λ f. refl) (λ f. refl) (endingIn c v) _ ∙ delivered-rnok (deliveryIn c v) (asked (c .core .reception)) (flagsOf c)
 
 -- ---- the flags after a write
 
@@ -262,6 +357,11 @@ accepted-so c e value d h = rw h
 passed : (t : Bool) {b : Bool} → b ≡ false → pick t true b ≡ true → t ≡ true
 passed true e h = refl
 passed false e h = absurd (false≢true (sym e ∙ h))
+
+-- and after two: one of them did
+one-passed : {A : Type 0} (s t : Bool) {b : Bool} → b ≡ false → pick s true (pick t true b) ≡ true → (s ≡ true → A) → (t ≡ true → A) → A
+one-passed true t e h p q = p refl
+one-passed false t e h p q = q (passed t e h)
 
 reset-flags : (g : Flags → Bool) (c : Controller) → g (flagsOf (resetAll c)) ≡ true → g (resetReport .flags) ≡ true
 unfolding resetAll resetCore
@@ -384,6 +484,52 @@ rst-by c =
           (λ l s e h. clash e (sym (slot-rst c (sampleOf c l)) ∙ h));
     }
 
+-- ---- a slot that is judged for the attempt ends no service as fulfilled
+
+unfoldable isJudged : Verdict → Bool
+isJudged Unjudged = false
+isJudged Goes = true
+isJudged Lost = true
+isJudged (Failed code) = true
+isJudged Done = true
+isJudged Answered = true
+
+asks-between : (p : Progress) → isAnswered p ≡ true → betweenAttempts p ≡ false
+unfolding isAnswered betweenAttempts
+asks-between p e = go (p .stage) e
+  where
+    go : (x : Stage) → isAnswering x ≡ true → isBetween x ≡ false
+    go Resting e = absurd (false≢true (unfold isAnswering in e))
+    go Waiting e = absurd (false≢true (unfold isAnswering in e))
+    go Opening e = absurd (false≢true (unfold isAnswering in e))
+    go Sending e = absurd (false≢true (unfold isAnswering in e))
+    go Receiving e = unfold isBetween in refl
+
+inside-fulfils : (d : Delivery) (r : Reception) (s : Service) → betweenAttempts (s .effort .progress) ≡ false → fulfils d r s ≡ false
+unfolding fulfils
+inside-fulfils Nothing r s e = refl
+inside-fulfils Stored r s e = rw e
+inside-fulfils Overflowed r s e = refl
+inside-fulfils Spoiled r s e = refl
+
+judged-fulfils : (k : Core) (v : ℕ) (h : Hearing) → isJudged (verdict k v) ≡ true → fulfils (delivers (roleIn k) h (k .reception)) (k .reception) (k .service) ≡ false
+unfolding verdict
+judged-fulfils k v h n = go (role-is (k .service .effort .progress) (k .reply .going) (k .reception .place)) n
+  where
+    go : {x : Role} → RoleIs (k .service .effort .progress) (k .reply .going) (k .reception .place) x → isJudged (verdictAs x k v) ≡ true
+        → fulfils (delivers x h (k .reception)) (k .reception) (k .service) ≡ false
+    go (sends d) n = unfold delivers fulfils in refl
+    go (asks d a) n = unfold delivers in inside-fulfils (deliveryOf h (k .reception)) (k .reception) (k .service) (asks-between (k .service .effort .progress) a)
+    go (replying d a y) n = absurd (false≢true (unfold verdictAs isJudged in n))
+    go (receives d a y u) n = absurd (false≢true (unfold verdictAs isJudged in n))
+    go (rests d a y u) n = absurd (false≢true (unfold verdictAs isJudged in n))
+
+judged-ending : (k : Core) (v : ℕ) (h : Hearing) (w : Verdict) → verdict k v ≡ w → isJudged w ≡ true → ending k (verdict k v) h ≡ endingOf w (serviceJudged w (k .service))
+unfolding ending
+judged-ending k v h w e n =
+    ap (λ (b : Bool). pick b Fulfilled (endingOf (verdict k v) (serviceJudged (verdict k v) (k .service)))) (judged-fulfils k v h (ap isJudged e ∙ n))
+    ∙ ap (λ (x : Verdict). endingOf x (serviceJudged x (k .service))) e
+
 -- ---- TOK
 
 -- no other verdict ends a service as sent
@@ -394,10 +540,24 @@ sent-done Goes s h = clash (stopped-sent s) h
 sent-done Lost s h = clash (stopped-sent s) h
 sent-done (Failed code) s h = clash (stopped-sent s) h
 sent-done Done s h = refl
+sent-done Answered s h = clash (stopped-sent s) h
 
-done-sent : (k : Core) → isSent (ending k Done) ≡ true
-unfolding ending endingOf isSent
-done-sent k = refl
+ending-done : (k : Core) (w : Verdict) (h : Hearing) → isSent (ending k w h) ≡ true → w ≡ Done
+unfolding ending
+ending-done k w h = go (fulfils (delivers (roleIn k) h (k .reception)) (k .reception) (k .service))
+  where
+    go : (b : Bool) → isSent (pick b Fulfilled (endingOf w (serviceJudged w (k .service)))) ≡ true → w ≡ Done
+    go true e = absurd (false≢true (unfold isSent in e))
+    go false e = sent-done w (serviceJudged w (k .service)) e
+
+whole-done : (q : Verdict) → isWhole q ≡ true → q ≡ Done
+unfolding isWhole
+whole-done Unjudged e = absurd (false≢true e)
+whole-done Goes e = absurd (false≢true e)
+whole-done Lost e = absurd (false≢true e)
+whole-done (Failed code) e = absurd (false≢true e)
+whole-done Done e = refl
+whole-done Answered e = absurd (false≢true e)
 
 not-at-reset : {A : Type 0} → false ≡ true → A
 not-at-reset e = absurd (false≢true e)
@@ -405,15 +565,19 @@ not-at-reset e = absurd (false≢true e)
 completes-raised : (c : Controller) (e : Event) → Completes c e → flagsOf (next c e) .tok ≡ true
 completes-raised c (Slot l) (completes s d) =
     let v : ℕ = sampleOf c l in
+    let p : isSent (endingIn c v) ≡ true = ap isSent (judged-ending (c .core) v (heardBy c v) Done d (unfold isJudged in refl)) ∙ (unfold endingOf isSent in refl) in
     ap (λ (x : Controller). flagsOf x .tok) (slot-sampled c l (s .taken) (s .active)) ∙ slot-tok c v
-    ∙ ap (λ (w : Verdict). pick (isSent (ending (c .core) w)) true (flagsOf c .tok)) d ∙ ap (λ (b : Bool). pick b true (flagsOf c .tok)) (done-sent (c .core))
+    ∙ ap (λ (b : Bool). pick (isWhole (replyOf c v)) true (pick b true (flagsOf c .tok))) p ∙ pick-same (isWhole (replyOf c v)) true
+completes-raised c (Slot l) (replied s d) =
+    let v : ℕ = sampleOf c l in
+    ap (λ (x : Controller). flagsOf x .tok) (slot-sampled c l (s .taken) (s .active)) ∙ slot-tok c v
+    ∙ ap (λ (q : Verdict). pick (isWhole q) true (pick (isSent (endingIn c v)) true (flagsOf c .tok))) d ∙ (unfold isWhole in refl)
 
 completes-slot : (c : Controller) (l : ℕ) → Sampled c l → flagsOf c .tok ≡ false → sampledSlot c (sampleOf c l) .core .report .flags .tok ≡ true → Completes c (Slot l)
-unfolding ending
 completes-slot c l s e h =
     let v : ℕ = sampleOf c l in
-    let p : isSent (ending (c .core) (verdictOf c v)) ≡ true = passed (isSent (ending (c .core) (verdictOf c v))) e (sym (slot-tok c v) ∙ h) in
-    completes s (sent-done (verdictOf c v) (serviceJudged (verdictOf c v) (c .core .service)) p)
+    one-passed (isWhole (replyOf c v)) (isSent (endingIn c v)) e (sym (slot-tok c v) ∙ h) (λ p. replied s (whole-done (replyOf c v) p))
+    (λ p. completes s (ending-done (c .core) (verdictOf c v) (heardBy c v) p))
 
 tok-by : (c : Controller) → Raised (λ f. f .tok) Completes c
 unfolding resetReport
@@ -436,6 +600,7 @@ exhausted-is Sent h = not-at-reset h
 exhausted-is Exhausted h = refl
 exhausted-is Aborted h = not-at-reset h
 exhausted-is Rearbitrated h = not-at-reset h
+exhausted-is Fulfilled h = not-at-reset h
 
 few-errors : (e : Effort) → e .counters .errors .0 ≤ e .setting → exhausted e ≡ false
 unfolding exhausted
@@ -451,7 +616,7 @@ exhausts-raised c (Slot l) (exhausts s d) =
 exhausts-slot : (c : Controller) (l : ℕ) → Sampled c l → flagsOf c .te ≡ false → sampledSlot c (sampleOf c l) .core .report .flags .te ≡ true → Exhausts c (Slot l)
 exhausts-slot c l s e h =
     let v : ℕ = sampleOf c l in
-    exhausts s (exhausted-is (ending (c .core) (verdictOf c v)) (passed (isExhausted (ending (c .core) (verdictOf c v))) e (sym (slot-te c v) ∙ h)))
+    exhausts s (exhausted-is (endingIn c v) (passed (isExhausted (endingIn c v)) e (sym (slot-te c v) ∙ h)))
 
 te-by : (c : Controller) → Fine c → Raised (λ f. f .te) Exhausts c
 unfolding resetReport
@@ -494,25 +659,48 @@ module _ (s : Service) (few : s .effort .counters .errors .0 ≤ s .effort .sett
   unfolding endingOf serviceJudged advance lostSpent slotSpent
   lost-not = stopped-exhausted (serviceJudged Lost s) (few-errors (serviceJudged Lost s .effort) few)
 
+  failed-last : (code : ℕ) → isExhausted (endingOf (Failed code) (serviceJudged (Failed code) s)) ≡ true → IsLast (s .effort) (Failed code)
+  failed-last code h =
+      let l = ltb-true (s .effort .setting) (s .effort .counters .errors .0 + 1) (sym (failed-exhausted code) ∙ sym (failed-ending code) ∙ h) in
+      is-last code (omega arith)
+
+  unjudged-not : isExhausted (endingOf Unjudged (serviceJudged Unjudged s)) ≡ false
+  unfolding endingOf serviceJudged advance
+  unjudged-not = stopped-exhausted s (few-errors (s .effort) few)
+
+  answered-not : isExhausted (endingOf Answered (serviceJudged Answered s)) ≡ false
+  unfolding endingOf serviceJudged advance atStage stopped betweenAttempts isBetween isExhausted
+  answered-not = refl
+
+  done-not : isExhausted (endingOf Done (serviceJudged Done s)) ≡ false
+  unfolding endingOf isExhausted
+  done-not = refl
+
   last-sound : {v : ℕ} {w : Verdict} → Tried (s .effort) v w → isExhausted (endingOf w (serviceJudged w s)) ≡ true → IsLast (s .effort) w
-  last-sound unjudged h =
-      clash {b = isExhausted (endingOf Unjudged (serviceJudged Unjudged s))} (unfold endingOf serviceJudged advance in stopped-exhausted s (few-errors (s .effort) few)) h
+  last-sound unjudged h = clash unjudged-not h
+  last-sound (awaited judgement.on) h = clash answered-not h
+  last-sound (awaited judgement.apart) h = clash unjudged-not h
+  last-sound (awaited (judgement.broken code g)) h = failed-last code h
+  last-sound (awaited judgement.fulfilled) h = clash done-not h
   last-sound (judged (went e g)) h =
       clash {b = isExhausted (endingOf Goes (serviceJudged Goes s))} (unfold endingOf serviceJudged advance atStage stopped betweenAttempts isBetween isExhausted in refl) h
   last-sound (judged (lost a b i)) h = clash lost-not h
-  last-sound (judged (broke code g)) h =
-      let l = ltb-true (s .effort .setting) (s .effort .counters .errors .0 + 1) (sym (failed-exhausted code) ∙ sym (failed-ending code) ∙ h) in
-      is-last code (omega arith)
-  last-sound (judged done) h = clash {b = isExhausted (endingOf Done (serviceJudged Done s))} (unfold endingOf isExhausted in refl) h
+  last-sound (judged (broke code g)) h = failed-last code h
+  last-sound (judged done) h = clash done-not h
+  last-sound (judged (judgement.answered a b i)) h = clash answered-not h
 
   last-complete : (code : ℕ) → s .effort .counters .errors .0 ≡ s .effort .setting → endingOf (Failed code) (serviceJudged (Failed code) s) ≡ Exhausted
   last-complete code e =
       exhausted-is (endingOf (Failed code) (serviceJudged (Failed code) s))
       (failed-ending code ∙ failed-exhausted code ∙ lt-ltb (s .effort .setting) (s .effort .counters .errors .0 + 1) (omega arith))
 
-ended-so : (k : Core) (w : Verdict) → ending k w ≡ Exhausted → isExhausted (endingOf w (serviceJudged w (k .service))) ≡ true
+ended-so : (k : Core) (w : Verdict) (h : Hearing) → ending k w h ≡ Exhausted → isExhausted (endingOf w (serviceJudged w (k .service))) ≡ true
 unfolding ending isExhausted
-ended-so k w d = ap isExhausted d
+ended-so k w h d = go (fulfils (delivers (roleIn k) h (k .reception)) (k .reception) (k .service)) (ap isExhausted d)
+  where
+    go : (b : Bool) → isExhausted (pick b Fulfilled (endingOf w (serviceJudged w (k .service)))) ≡ true → isExhausted (endingOf w (serviceJudged w (k .service))) ≡ true
+    go true e = absurd (false≢true (unfold isExhausted in e))
+    go false e = e
 
 module _ (c : Controller) (f : Fine c) where
   few : c .core .service .effort .counters .errors .0 ≤ c .core .service .effort .setting
@@ -524,17 +712,15 @@ module _ (c : Controller) (f : Fine c) where
   last-named : (l : ℕ) → Sampled c l → {w : Verdict} → verdictIn c l ≡ w → IsLast (c .core .service .effort) w → LastError c (Slot l)
   last-named l s p (is-last code e) = last code s p e
 
-  failed-so : (code : ℕ) → c .core .service .effort .counters .errors .0 ≡ c .core .service .effort .setting → ending (c .core) (Failed code) ≡ Exhausted
-  unfolding ending
-  failed-so code e = last-complete (c .core .service) few small code e
-
   te-sound : (e : Event) → Exhausts c e → LastError c e
   te-sound (Slot l) (exhausts s d) =
       let v : ℕ = sampleOf c l in
-      last-named l s refl (last-sound (c .core .service) few small (tried (c .core .service .effort) v) (ended-so (c .core) (verdictOf c v) d))
+      last-named l s refl (last-sound (c .core .service) few small (verdict-tried (c .core) v) (ended-so (c .core) (verdictOf c v) (heardBy c v) d))
 
   te-complete : (e : Event) → LastError c e → Exhausts c e
-  te-complete (Slot l) (last code s p e) = exhausts s (ap (ending (c .core)) p ∙ failed-so code e)
+  te-complete (Slot l) (last code s p e) =
+      let v : ℕ = sampleOf c l in
+      exhausts s (judged-ending (c .core) v (heardBy c v) (Failed code) p (unfold isJudged in refl) ∙ last-complete (c .core .service) few small code e)
 
 -- ---- what a frame delivers
 
@@ -542,29 +728,48 @@ silent-nothing : (r : Reception) → deliveryOf Silent r ≡ Nothing
 unfolding deliveryOf deliveryTo
 silent-nothing r = pick-same (r .winner .matched) Nothing
 
--- by the receiver's judgement alone, where the model is not the sender
-module _ (c : Controller) (v : ℕ) (other : sends c ≡ false) where
+quiet-phase : (p : Phase) → isUnderWay p ≡ false → p ≡ Quiet
+unfolding isUnderWay
+quiet-phase Quiet e = refl
+quiet-phase Start e = not-at-reset (sym e)
+quiet-phase Body e = not-at-reset (sym e)
+quiet-phase Acknowledge e = not-at-reset (sym e)
+quiet-phase End e = not-at-reset (sym e)
+
+nobody-nothing : (h : Hearing) (r : Reception) → delivers Nobody h r ≡ Nothing
+unfolding delivers
+nobody-nothing h r = refl
+
+-- by the receiver's judgement alone, where the frame under way is not the model's own
+module _ (c : Controller) (v : ℕ) where
   quiet-heard : c .core .reception .place .phase ≡ Quiet → hearFrame (c .core .reception) (longestOf (c .core)) v ≡ Silent
   unfolding hearFrame hearIn
   quiet-heard e = rw e
 
-  by-phase : (p : Phase) → c .core .reception .place .phase ≡ p → (w : Verdict)
-      → delivers (pick (isUnderWay p) Receiver Nobody) (heardAs (pick (isUnderWay p) Receiver Nobody) (c .core) w v) (c .core .reception)
-      ≡ deliveryOf (hearFrame (c .core .reception) (longestOf (c .core)) v) (c .core .reception)
-  unfolding delivers heardAs isUnderWay
-  by-phase Quiet e w = sym (ap (λ (h : Hearing). deliveryOf h (c .core .reception)) (quiet-heard e) ∙ silent-nothing (c .core .reception))
-  by-phase Start e w = refl
-  by-phase Body e w = refl
-  by-phase Acknowledge e w = refl
-  by-phase End e w = refl
+  other-delivery : ownFrame (roleIn (c .core)) ≡ false → deliveryIn c v ≡ deliveryOf (hearFrame (c .core .reception) (longestOf (c .core)) v) (c .core .reception)
+  unfolding heard
+  other-delivery o = go (role-is (c .core .service .effort .progress) (c .core .reply .going) (c .core .reception .place)) o
+    where
+      go : {x : Role} → RoleIs (c .core .service .effort .progress) (c .core .reply .going) (c .core .reception .place) x → ownFrame x ≡ false
+          → delivers x (heardAs x (c .core) (verdictOf c v) v) (c .core .reception) ≡ deliveryOf (hearFrame (c .core .reception) (longestOf (c .core)) v) (c .core .reception)
+      go (sends d) o = not-at-reset (sym (unfold ownFrame in o))
+      go (asks d a) o = unfold delivers heardAs in refl
+      go (replying d a y) o = not-at-reset (sym (unfold ownFrame in o))
+      go (receives d a y u) o = unfold delivers heardAs in refl
+      go (rests d a y u) o =
+          let e : hearFrame (c .core .reception) (longestOf (c .core)) v ≡ Silent = quiet-heard (quiet-phase (c .core .reception .place .phase) (unfold underWay in u)) in
+          nobody-nothing (heardAs Nobody (c .core) (verdictOf c v) v) (c .core .reception) ∙ sym (ap (λ (h : Hearing). deliveryOf h (c .core .reception)) e ∙ silent-nothing (c .core .reception))
 
-  other-delivery : deliveryIn c v ≡ deliveryOf (hearFrame (c .core .reception) (longestOf (c .core)) v) (c .core .reception)
-  unfolding heard underWay
-  other-delivery =
-      rw (role-other (c .core .service .effort .progress) (c .core .reception .place) other) (by-phase (c .core .reception .place .phase) refl (verdictOf c v))
+own-nothing : (x : Role) (h : Hearing) (r : Reception) → ownFrame x ≡ true → delivers x h r ≡ Nothing
+unfolding delivers ownFrame
+own-nothing Nobody h r e = refl
+own-nothing Receiver h r e = not-at-reset e
+own-nothing Sender h r e = refl
+own-nothing Asker h r e = not-at-reset e
+own-nothing Replier h r e = refl
 
-own-delivery : (c : Controller) (v : ℕ) → sends c ≡ true → deliveryIn c v ≡ Nothing
-own-delivery c v d = own-delivers (c .core) d (heard (c .core) (verdictOf c v) v)
+own-delivery : (c : Controller) (v : ℕ) → ownFrame (roleIn (c .core)) ≡ true → deliveryIn c v ≡ Nothing
+own-delivery c v d = own-nothing (roleIn (c .core)) (heardBy c v) (c .core .reception) d
 
 -- a delivery that does something is another module's frame, matched
 module _ (c : Controller) (l : ℕ) (s : Sampled c l) (t : Delivery → Bool) (idle : t Nothing ≡ false) where
@@ -573,9 +778,9 @@ module _ (c : Controller) (l : ℕ) (s : Sampled c l) (t : Delivery → Bool) (i
 
   took : t (deliveryIn c v) ≡ true → Received c l × (t (deliveryTo (hearingIn c l) (c .core .reception)) ≡ true)
   unfolding deliveryOf
-  took h = go (sends c) refl (c .core .reception .winner .matched) refl
+  took h = go (ownFrame (roleIn (c .core))) refl (c .core .reception .winner .matched) refl
     where
-      go : (a : Bool) → sends c ≡ a → (b : Bool) → c .core .reception .winner .matched ≡ b → Received c l × (t (deliveryTo (hearingIn c l) (c .core .reception)) ≡ true)
+      go : (a : Bool) → ownFrame (roleIn (c .core)) ≡ a → (b : Bool) → c .core .reception .winner .matched ≡ b → Received c l × (t (deliveryTo (hearingIn c l) (c .core .reception)) ≡ true)
       go true e b d = clash idle (sym (ap t (own-delivery c v e)) ∙ h)
       go false e false d =
           let n : deliveryIn c v ≡ Nothing = other-delivery c v e ∙ ap (λ (x : Bool). pick x (deliveryTo (hearingIn c l) (c .core .reception)) Nothing) d in
@@ -593,17 +798,23 @@ taken-in c l r e =
 
 -- ---- RE
 
+spoiled-raised : (c : Controller) (l : ℕ) → Sampled c l → isSpoiled (deliveryIn c (sampleOf c l)) ≡ true → flagsOf (next c (Slot l)) .re ≡ true
+spoiled-raised c l s d =
+    let v : ℕ = sampleOf c l in
+    ap (λ (x : Controller). flagsOf x .re) (slot-sampled c l (s .taken) (s .active)) ∙ slot-re c v
+    ∙ ap (λ (b : Bool). pick (isBroken (replyOf c v)) true (pick b true (flagsOf c .re))) d ∙ pick-same (isBroken (replyOf c v)) true
+
 spoils-raised : (c : Controller) (e : Event) → Spoils c e → flagsOf (next c e) .re ≡ true
 spoils-raised c (Slot l) (fault code r d) =
-    let v : ℕ = sampleOf c l in
-    let x : deliveryIn c v ≡ Spoiled = taken-in c l r d ∙ (unfold deliveryTo in refl) in
-    ap (λ (x : Controller). flagsOf x .re) (slot-sampled c l (r .sampled .taken) (r .sampled .active)) ∙ slot-re c v
-    ∙ ap (λ (y : Delivery). pick (isSpoiled y) true (flagsOf c .re)) x ∙ (unfold isSpoiled in refl)
+    let x : deliveryIn c (sampleOf c l) ≡ Spoiled = taken-in c l r d ∙ (unfold deliveryTo in refl) in
+    spoiled-raised c l (r .sampled) (ap isSpoiled x ∙ (unfold isSpoiled in refl))
 spoils-raised c (Slot l) (overflow r d n) =
+    let x : deliveryIn c (sampleOf c l) ≡ Overflowed = taken-in c l r d ∙ (unfold deliveryTo delivered in rw n) in
+    spoiled-raised c l (r .sampled) (ap isSpoiled x ∙ (unfold isSpoiled in refl))
+spoils-raised c (Slot l) (broken code s d) =
     let v : ℕ = sampleOf c l in
-    let x : deliveryIn c v ≡ Overflowed = taken-in c l r d ∙ (unfold deliveryTo delivered in rw n) in
-    ap (λ (x : Controller). flagsOf x .re) (slot-sampled c l (r .sampled .taken) (r .sampled .active)) ∙ slot-re c v
-    ∙ ap (λ (y : Delivery). pick (isSpoiled y) true (flagsOf c .re)) x ∙ (unfold isSpoiled in refl)
+    ap (λ (x : Controller). flagsOf x .re) (slot-sampled c l (s .taken) (s .active)) ∙ slot-re c v
+    ∙ ap (λ (q : Verdict). pick (isBroken q) true (pick (isSpoiled (deliveryIn c v)) true (flagsOf c .re))) d ∙ (unfold isBroken in refl)
 
 spoils-heard : (c : Controller) (l : ℕ) → Received c l → (h : Hearing) → hearingIn c l ≡ h → isSpoiled (deliveryTo h (c .core .reception)) ≡ true → Spoils c (Slot l)
 unfolding deliveryTo delivered
@@ -616,11 +827,20 @@ spoils-heard c l r Good e d = overflow r e (go (fitting c) d)
     go true d = not-at-reset (unfold isSpoiled in d)
     go false d = refl
 
+spoils-reply : (c : Controller) (l : ℕ) → Sampled c l → (q : Verdict) → replyIn c l ≡ q → isBroken q ≡ true → Spoils c (Slot l)
+unfolding isBroken
+spoils-reply c l s Unjudged e d = not-at-reset d
+spoils-reply c l s Goes e d = not-at-reset d
+spoils-reply c l s Lost e d = not-at-reset d
+spoils-reply c l s (Failed code) e d = broken code s e
+spoils-reply c l s Done e d = not-at-reset d
+spoils-reply c l s Answered e d = not-at-reset d
+
 spoils-slot : (c : Controller) (l : ℕ) → Sampled c l → flagsOf c .re ≡ false → sampledSlot c (sampleOf c l) .core .report .flags .re ≡ true → Spoils c (Slot l)
 spoils-slot c l s e h =
     let v : ℕ = sampleOf c l in
-    let t = took c l s isSpoiled (unfold isSpoiled in refl) (passed (isSpoiled (deliveryIn c v)) e (sym (slot-re c v) ∙ h)) in
-    spoils-heard c l (t .0) (hearingIn c l) refl (t .1)
+    one-passed (isBroken (replyOf c v)) (isSpoiled (deliveryIn c v)) e (sym (slot-re c v) ∙ h) (λ p. spoils-reply c l s (replyOf c v) refl p)
+    (λ p. let t = took c l s isSpoiled (unfold isSpoiled in refl) p in spoils-heard c l (t .0) (hearingIn c l) refl (t .1))
 
 re-by : (c : Controller) → Raised (λ f. f .re) Spoils c
 unfolding resetReport

@@ -1,48 +1,52 @@
 -- What every event leaves, by the observer.
---   Leaves == the bytes, registers and bits of controller d that event e leaves        settled == over every list of events
+--   Leaves == the bytes, registers and bits of controller d that event e leaves        settles == the claim on an event
 use Prim.Native.Nat.{ℕ, _+_, _%_, _≤_, _<_}
 use mathlib.Core.Bool.{Bool, true, false, not, false≢true}
-use mathlib.Core.List.{List, [], _∷_, _++_}
-use mathlib.Core.Path.{_≡_, refl, ap, _∙_, sym}
+use mathlib.Core.List.{List, _++_}
+use mathlib.Core.Path.{_≡_, refl, ap, _∙_, sym, subst}
 use native.Mathlib.Omega.{arith}
 use borrow.Author.Tests.{le-ltb, leb-true, eqb-true, eqb-false}
 use lib.Dec.{eqb, ltb, leb}
 use lib.ListN.{getD}
-use Rattle.line.specs.Bits.{pick}
-use Rattle.line.proofs.Laws.{picked, pick-same}
+use Rattle.line.specs.Bits.{pick, Below}
+use Rattle.line.proofs.Laws.{picked}
 use Rattle.rules.specs.Definitions.Setters.{withFlags, withReport, withService}
 use Rattle.rules.specs.Definitions.Longest.{longestOf}
-use Rattle.rules.specs.Definitions.Registers.{both, either, hasBit, lineControl, transmitControl, autonomous, command, lineStatusAt, transmissionStatus, lastMessageStatus, lastErrorStatus, interruptStatusAt, interruptReset, asksSleep, asksRearbitration, readOnly, writeOnly, lineStatus, retriesByte, interruptStatus, BOV, unless, cleared, transmitted, resetReport}
+use Rattle.rules.specs.Definitions.Registers.{both, either, hasBit, lineControl, transmitControl, autonomous, command, lineStatusAt, transmissionStatus, lastMessageStatus, lastErrorStatus, interruptStatusAt, interruptReset, asksSleep, asksRearbitration, readOnly, writeOnly, lineStatus, retriesByte, interruptStatus, BOV, CV, unless, cleared, transmitted, resetReport}
 use Rattle.rules.specs.Definitions.Mailbox.{markedCher, markedChtx, resetMemory}
 use Rattle.rules.specs.Definitions.Channels.{acknowledgeAsked, base, cher, lowestReady}
-use Rattle.rules.specs.Definitions.Reception.{underWay, startEnded, dataCount}
-use Rattle.rules.specs.Definitions.Hearing.{fits}
-use Rattle.rules.specs.Definitions.Delivery.{delivered, deliveryTo, deliveryOf, memoryDelivered, receiveError, reportStored, reportHeard, reportDelivered}
-use Rattle.rules.specs.Definitions.Attempt.{atStage, inService, isServing, drivesFrame, isDriving, judge}
-use Rattle.rules.specs.Definitions.Service.{resting, stopped, settled, memoryEnded, retriesOf, reportSending, reportJudged, reportEnded, chosen, choiceOf, choose}
-use Rattle.rules.specs.Definitions.State.{isActive, isAsleep, isIdle, serving, resetCore, idled, idleDue, slept}
-use Rattle.rules.specs.Definitions.Slots.{roleIn, heard, delivers, serviceJudged, ending, reportAfter, memoryJudged, coreJudged, chooses, choiceMade, startMade, followsOn, drives, sampleOf, judgedSlot, sampledSlot, activeSlot}
+use Rattle.rules.specs.Definitions.Reception.{underWay, startEnded}
+use Rattle.rules.specs.Definitions.Hearing.{hearFrame}
+use Rattle.rules.specs.Definitions.Delivery.{memoryDelivered, receiveError, reportStored, reportHeard, reportDelivered}
+use Rattle.rules.specs.Definitions.Attempt.{atStage, inService, isServing, drivesFrame, isDriving, isAnswered, isAnswering}
+use Rattle.rules.specs.Definitions.Service.{resting, stopped, endingOf, settled, memoryEnded, retriesOf, reportSending, reportJudged, reportEnded, goodFor, answeredAs, fulfils, memoryReplied, reportReplied, chosen, choiceOf, choose, hearOwn}
+use Rattle.rules.specs.Definitions.State.{isActive, isAsleep, isIdle, serving, resetCore, idleDue, slept}
+use Rattle.rules.specs.Definitions.Slots as slot-rule
+use Rattle.rules.specs.Definitions.Slots.{roleIn, replyVerdict, heard, delivers, verdictAs, serviceJudged, ending, reportAfter, memoryJudged, coreJudged, choiceMade, startMade, followsOn, drives, sampleOf, judgedSlot, sampledSlot, activeSlot}
 use Rattle.rules.specs.Definitions.Host.{resetAll, resets, sleeps, modeCommanded, keptByte, flagsCleared, coreWritten, serviceAsked, stoppedCore, byteWritten, hostWritten, lineStatusOf, statusRead, byteRead, accessRefusals, readRefusals}
-use Rattle.rules.specs.Definitions.Run.{fresh, accept, hostRead, answered, restedSlot, step, next, refuse}
-use Rattle.rules.specs.Statements.Tally.{Stand, away, between, opening, inside, Tally, none, withStand, withAbort, withRear, countedIn, countedT, endedT, chosenT, choiceT, chooseIn, chooseT, startIn, startT, askedIn, askedT, asks, isAway}
-use Rattle.rules.specs.Statements.Observer.{freeO, Observer, atReset, hearsO, sampledO, idleO, goesOnO, accepted, nextO}
-use Rattle.rules.specs.Statements.Sending.{levelO, Agrees}
-use Rattle.rules.specs.Statements.Settled.{sentAll, exhaustedIn, pausing, abortedIn, endedMap, retriesT, fitting, heardDelivery, deliveredIn, deliveredMap, isStored, isSpoiled, judgedIn, hearingIn, deliveryIn, chosenIn, writtenMap, memoryO, zeroRetries, sendingO, messageO, codeHeard, overflows, errorO, flagO, readO, rak, Answers, Hears, Settles, SettledOver}
+use Rattle.rules.specs.Definitions.Run as run
+use Rattle.rules.specs.Definitions.Run.{accept, refuse, hostRead, restedSlot, step, next}
+use Rattle.rules.specs.Statements.Tally.{Stand, away, between, opening, inside, answered, Tally, Reply, none, requestT, withStand, withAbort, withRear, countedIn, countedT, endedT, chosenT, choiceT, chooseIn, chooseT, startIn, startT, askedIn, askedT, asks, isAway}
+use Rattle.rules.specs.Statements.Observer.{freeO, Replying, silent, replies, Observer, fitting, heardDelivery, deliveredApart, deliveredIn, isStored, answerIn, answerO, pausing, waits, fulfilledT, isReplying, fulfilledO, sampledO, goesOnO, accepted, nextO}
+use Rattle.rules.specs.Statements.Sending.{levelO}
+use Rattle.rules.specs.Statements.Settled as settlement
+use Rattle.rules.specs.Statements.Settled.{sentAll, exhaustedIn, abortedIn, endedMap, retriesT, deliveredMap, isSpoiled, Replied, repliedAt, repliedMap, isWhole, isBroken, repliedMessage, judgedIn, hearingIn, deliveryIn, repliedIn, writtenMap, memoryO, zeroRetries, sendingO, messageO, isGood, isNothing, codeHeard, overflows, untaken, errorO, flagO, readO, rak, Answers, Hears, Settles}
 use Rattle.rules.proofs.Logic.{left, both-true}
-use Rattle.rules.proofs.Roles.{role-sender, role-other}
+use Rattle.rules.proofs.Roles.{role-sender, role-asker, role-other, heard-sender, heard-asker}
 use Rattle.rules.proofs.Steps as steps
 use Rattle.rules.proofs.Steps.{Call, refused, call-of, Step, refusal, reset, wrote, gave, went, rested, step-of, refused-next, refused-not, accepted-next, accepted-so}
 use Rattle.rules.proofs.Ranges.Limits.{Fine}
-use Rattle.rules.proofs.Ranges.Reach.{fine-fresh, fine-next}
-use Rattle.rules.proofs.Sending.Join.{made, serviceIn, serviceOf, chosen-is}
+use Rattle.rules.proofs.Sending.Join.{made, serviceIn, serviceOf, chosen-is, JudgedIn}
+use Rattle.rules.proofs.Sending.Beside.{answerC, endedC}
 use Rattle.rules.proofs.Sending.Follow.{idle-service, idle-report, chooses-as, follows-message, follows-error, mode-report}
-use Rattle.rules.proofs.Sending.Bound.{asked-good}
+use Rattle.rules.proofs.Sending.Bound.{Coming, asked-good}
 use Rattle.rules.proofs.Sending.Demand3 as demand
-use Rattle.rules.proofs.Sending.Demand3.{driven-is, asked-same, sampled-service}
-use Rattle.rules.proofs.Receiving.LogSteps.{sample-small}
-use Rattle.rules.proofs.Interrupts.Raised as flags
-use Rattle.rules.proofs.Observer.Agreed.{Same, hears-same, judgedCore, after, idled-core, idle-tally, serving-is, same-next, same-fresh, taken, active-is, followed-by, rested-by, agrees}
-use Rattle.rules.proofs.Observer.Ends.{restT, endT, stopped-is, on-service, off-service, retries-in, Tells, tells}
+use Rattle.rules.proofs.Sending.Demand3.{driven-is, heard-delivery, is-judged, is-fulfilled, asked-same}
+use Rattle.rules.proofs.Samples.{sample-small}
+use Rattle.rules.proofs.Observer.Flags.{flags-follow, isSent, isDone, isFailed, after-rst, after-tok, after-re, after-rok, after-rnok}
+use Rattle.rules.proofs.Observer.Replies.{SameReply, same-going, is-silent, is-replier, repliedOf, apart-ended}
+use Rattle.rules.proofs.Observer.Agreed.{Same, hears-same, ended-same, judgedCore, judged-service, after, idled-core, idle-tally, serving-is, bytes-after, same-next, taken, active-is, followed-by, rested-by, agrees}
+use Rattle.rules.proofs.Sending.Ends.{restT, endT, stopped-is, on-service, off-service, retries-in, Tells, tells}
 use Rattle.rules.specs.declared.Flags.{Flags}
 use Rattle.rules.specs.declared.Retries.{Retries}
 use Rattle.rules.specs.declared.Report.{Report}
@@ -55,11 +59,11 @@ use Rattle.rules.specs.declared.Delivery.{Delivery}
 use Rattle.rules.specs.declared.Delivery.the-variants.{Nothing, Stored, Overflowed, Spoiled}
 use Rattle.rules.specs.declared.Service.{Service}
 use Rattle.rules.specs.declared.Verdict.{Verdict}
-use Rattle.rules.specs.declared.Verdict.the-variants.{Unjudged, Goes, Lost, Failed, Done}
+use Rattle.rules.specs.declared.Verdict.the-variants.{Unjudged, Goes, Lost, Failed, Done, Answered}
 use Rattle.rules.specs.declared.Ending.{Ending}
-use Rattle.rules.specs.declared.Ending.the-variants.{Going, Sent, Exhausted, Aborted, Rearbitrated}
+use Rattle.rules.specs.declared.Ending.the-variants.{Going, Sent, Exhausted, Aborted, Rearbitrated, Fulfilled}
 use Rattle.rules.specs.declared.Role.{Role}
-use Rattle.rules.specs.declared.Role.the-variants.{Nobody, Receiver, Sender}
+use Rattle.rules.specs.declared.Role.the-variants.{Nobody, Receiver}
 use Rattle.rules.specs.declared.Core.{Core}
 use Rattle.rules.specs.declared.Refusal.{Refusal}
 use Rattle.rules.specs.declared.Controller.{Controller}
@@ -69,32 +73,91 @@ use Rattle.rules.specs.declared.Event.the-variants.{Reset, Write, Read, 
 
 -- ---- what another module's frame does
 
-heard-delivery : (h : Hearing) (r : Reception) → deliveryOf h r ≡ heardDelivery h r
-unfolding deliveryOf deliveryTo heardDelivery delivered fits fitting
-heard-delivery Silent r = pick-same (r .winner .matched) Nothing
-heard-delivery Follows r = pick-same (r .winner .matched) Nothing
-heard-delivery (Fault code) r = refl
-heard-delivery Good r = refl
-
-delivered-in : (x : Stand) (k : Core) (t : Tally) (h : Hearing) → k .service ≡ serviceIn x t → delivers (roleIn k) h (k .reception) ≡ deliveredIn x h (k .reception)
-unfolding serviceIn deliveredIn
-delivered-in x k t h = go x
+-- outside an attempt
+delivered-apart : (k : Core) (y : Replying) (h : Hearing) → SameReply (k .reply) y → drivesFrame (k .service .effort .progress) ≡ false → isAnswered (k .service .effort .progress) ≡ false
+    → delivers (roleIn k) h (k .reception) ≡ deliveredApart y h (k .reception)
+delivered-apart k y h s d a = go y refl
   where
-    other : drivesFrame (k .service .effort .progress) ≡ false → delivers (roleIn k) h (k .reception) ≡ pick (underWay (k .reception .place)) (heardDelivery h (k .reception)) Nothing
-    other d = rw (role-other (k .service .effort .progress) (k .reception .place) d) (by (underWay (k .reception .place)))
-      where
-        by : (u : Bool) → delivers (pick u Receiver Nobody) h (k .reception) ≡ pick u (heardDelivery h (k .reception)) Nothing
-        by true = unfold delivers in heard-delivery h (k .reception)
-        by false = unfold delivers in refl
+    by : (u : Bool) → delivers (pick u Receiver Nobody) h (k .reception) ≡ pick u (heardDelivery h (k .reception)) Nothing
+    by true = unfold delivers in heard-delivery h (k .reception)
+    by false = unfold delivers in refl
 
+    go : (x : Replying) → y ≡ x → delivers (roleIn k) h (k .reception) ≡ deliveredApart x h (k .reception)
+    go silent e = unfold deliveredApart in rw (role-other (k .service .effort .progress) (k .reply .going) (k .reception .place) d a (is-silent k y s d a e)) (by (underWay (k .reception .place)))
+    go (replies c f i) e = unfold deliveredApart in rw (is-replier k y s d a c f i e) (unfold delivers in refl)
+
+delivered-in : (x : Stand) (k : Core) (t : Tally) (y : Replying) (h : Hearing) → SameReply (k .reply) y → k .service ≡ serviceIn x t → delivers (roleIn k) h (k .reception) ≡ deliveredIn x y h (k .reception)
+unfolding serviceIn deliveredIn
+delivered-in x k t y h s = go x
+  where
     own : drivesFrame (k .service .effort .progress) ≡ true → delivers (roleIn k) h (k .reception) ≡ Nothing
-    own d = rw (role-sender (k .service .effort .progress) (k .reception .place) d) (unfold delivers in refl)
+    own d = rw (role-sender (k .service .effort .progress) (k .reply .going) (k .reception .place) d) (unfold delivers in refl)
 
-    go : (x : Stand) → k .service ≡ serviceIn x t → delivers (roleIn k) h (k .reception) ≡ deliveredIn x h (k .reception)
-    go away e = other (rw e (unfold resting atStage drivesFrame isDriving in refl))
-    go between e = other (rw e (unfold made atStage drivesFrame isDriving in refl))
+    go : (x : Stand) → k .service ≡ serviceIn x t → delivers (roleIn k) h (k .reception) ≡ deliveredIn x y h (k .reception)
+    go away e = delivered-apart k y h s (rw e (unfold resting atStage drivesFrame isDriving in refl)) (rw e (unfold resting atStage isAnswered isAnswering in refl))
+    go between e = delivered-apart k y h s (rw e (unfold made atStage drivesFrame isDriving in refl)) (rw e (unfold made atStage isAnswered isAnswering in refl))
     go (opening start) e = own (rw e (unfold made atStage drivesFrame isDriving in refl))
     go (inside start levels) e = own (rw e (unfold made atStage drivesFrame isDriving in refl))
+    go (answered start n) e =
+        rw (role-asker (k .service .effort .progress) (k .reply .going) (k .reception .place) (rw e (unfold made atStage drivesFrame isDriving in refl)) (rw e (unfold made atStage isAnswered isAnswering in refl)))
+        (unfold delivers in heard-delivery h (k .reception))
+
+-- ---- how the sample ends a reply
+
+replied-in : (x : Stand) (k : Core) (t : Tally) (y : Replying) (v : ℕ) → SameReply (k .reply) y → k .service ≡ serviceIn x t
+    → repliedOf (replyVerdict (roleIn k) k v) (k .reply .channel) ≡ repliedAt x y (drives k) v
+unfolding serviceIn repliedAt
+replied-in x k t y v s = go x
+  where
+    own : drivesFrame (k .service .effort .progress) ≡ true → repliedOf (replyVerdict (roleIn k) k v) (k .reply .channel) ≡ settlement.unended
+    own d = rw (role-sender (k .service .effort .progress) (k .reply .going) (k .reception .place) d) (unfold replyVerdict repliedOf in refl)
+
+    go : (x : Stand) → k .service ≡ serviceIn x t → repliedOf (replyVerdict (roleIn k) k v) (k .reply .channel) ≡ repliedAt x y (drives k) v
+    go away e = apart-ended k y s (rw e (unfold resting atStage drivesFrame isDriving in refl)) (rw e (unfold resting atStage isAnswered isAnswering in refl)) v
+    go between e = apart-ended k y s (rw e (unfold made atStage drivesFrame isDriving in refl)) (rw e (unfold made atStage isAnswered isAnswering in refl)) v
+    go (opening start) e = own (rw e (unfold made atStage drivesFrame isDriving in refl))
+    go (inside start levels) e = own (rw e (unfold made atStage drivesFrame isDriving in refl))
+    go (answered start n) e =
+        rw (role-asker (k .service .effort .progress) (k .reply .going) (k .reception .place) (rw e (unfold made atStage drivesFrame isDriving in refl)) (rw e (unfold made atStage isAnswered isAnswering in refl)))
+        (unfold replyVerdict repliedOf in refl)
+
+replied-map : (q : Verdict) (m : List ℕ) (n : ℕ) → memoryReplied q m n ≡ repliedMap (repliedOf q n) m
+unfolding memoryReplied repliedOf repliedMap
+replied-map Unjudged m n = refl
+replied-map Goes m n = refl
+replied-map Lost m n = refl
+replied-map (Failed code) m n = refl
+replied-map Done m n = refl
+replied-map Answered m n = refl
+
+message-replied : (q : Verdict) (x : Report) (n : ℕ) → reportReplied q x n .message ≡ repliedMessage (repliedOf q n) (x .message)
+unfolding reportReplied repliedOf repliedMessage
+message-replied Unjudged x n = refl
+message-replied Goes x n = refl
+message-replied Lost x n = refl
+message-replied (Failed code) x n = refl
+message-replied Done x n = refl
+message-replied Answered x n = refl
+
+done-whole : (q : Verdict) (n : ℕ) → isDone q ≡ isWhole (repliedOf q n)
+unfolding isDone repliedOf isWhole
+done-whole Unjudged n = refl
+done-whole Goes n = refl
+done-whole Lost n = refl
+done-whole (Failed code) n = refl
+done-whole Done n = refl
+done-whole Answered n = refl
+
+failed-broken : (q : Verdict) (n : ℕ) → isFailed q ≡ isBroken (repliedOf q n)
+unfolding isFailed repliedOf isBroken
+failed-broken Unjudged n = refl
+failed-broken Goes n = refl
+failed-broken Lost n = refl
+failed-broken (Failed code) n = refl
+failed-broken Done n = refl
+failed-broken Answered n = refl
+
+-- ---- the map
 
 delivered-map : (d : Delivery) (m : List ℕ) (r : Reception) → memoryDelivered d m r ≡ deliveredMap d m r
 unfolding memoryDelivered deliveredMap
@@ -129,6 +192,11 @@ ended-map t j m n q z = go (isAway (t .stand)) refl
     go true e = let u = z e in rw (u .errors, u .abort) (marked false false false (both (pausing (j .stand)) (j .rear)) m n)
     go false e = rw (q e) (marked (isAway (j .stand)) (exhaustedIn j) (abortedIn j) (both (pausing (j .stand)) (j .rear)) m (t .channel))
 
+-- a request that is fulfilled leaves the map as the delivery did
+fulfilled-map : (b : Bool) (t j : Tally) (m : List ℕ) (n : ℕ) → memoryEnded (endT t j) m n ≡ endedMap t j m → memoryEnded (pick b Fulfilled (endT t j)) m n ≡ pick b m (endedMap t j m)
+fulfilled-map true t j m n e = unfold memoryEnded in refl
+fulfilled-map false t j m n e = e
+
 away-unended : (t j : Tally) → j ≡ t → isAway (t .stand) ≡ true → t .errors ≤ t .setting → Unended j
 away-unended t j e a h = rw e (record { errors = unfold exhaustedIn in le-ltb (t .setting) (t .errors) h; abort = unfold abortedIn in rw (none-pauses (t .stand) a) })
   where
@@ -137,16 +205,18 @@ away-unended t j e a h = rw e (record { errors = unfold exhaustedIn in le-ltb (t
     none-pauses between i = absurd (false≢true (unfold isAway in i))
     none-pauses (opening start) i = absurd (false≢true (unfold isAway in i))
     none-pauses (inside start levels) i = absurd (false≢true (unfold isAway in i))
+    none-pauses (answered start n) i = absurd (false≢true (unfold isAway in i))
 
-away-counted : (t : Tally) (d v : ℕ) → isAway (t .stand) ≡ true → countedT t d v ≡ t
+away-counted : (t : Tally) (d v : ℕ) (y : Reply) → isAway (t .stand) ≡ true → countedT t d v y ≡ t
 unfolding countedT
-away-counted t d v = go (t .stand)
+away-counted t d v y = go (t .stand)
   where
-    go : (x : Stand) → isAway x ≡ true → countedIn x t d v ≡ t
+    go : (x : Stand) → isAway x ≡ true → countedIn x t d v y ≡ t
     go away a = unfold countedIn in refl
     go between a = absurd (false≢true (unfold isAway in a))
     go (opening start) a = absurd (false≢true (unfold isAway in a))
     go (inside start levels) a = absurd (false≢true (unfold isAway in a))
+    go (answered start n) a = absurd (false≢true (unfold isAway in a))
 
 away-asked : (t : Tally) (a v : ℕ) → isAway (t .stand) ≡ true → askedT t a v ≡ t
 unfolding askedT
@@ -157,6 +227,7 @@ away-asked t b v = go (t .stand)
     go between a = absurd (false≢true (unfold isAway in a))
     go (opening start) a = absurd (false≢true (unfold isAway in a))
     go (inside start levels) a = absurd (false≢true (unfold isAway in a))
+    go (answered start n) a = absurd (false≢true (unfold isAway in a))
 
 -- ---- the registers
 
@@ -168,15 +239,27 @@ leaves-ended f h Sent r s = h r _ _
 leaves-ended f h Exhausted r s = h r _ _
 leaves-ended f h Aborted r s = refl
 leaves-ended f h Rearbitrated r s = refl
+leaves-ended f h Fulfilled r s = refl
 
-leaves-judged : {B : Type 0} (f : Report → B) → ((x : Report) (r : Retries) → f (record { sending = r; message = x .message; error = x .error; flags = x .flags }) ≡ f x)
+leaves-replied : {B : Type 0} (f : Report → B) → ((x : Report) (r : Retries) (g : Flags) → f (record { sending = x .sending; message = r; error = x .error; flags = g }) ≡ f x)
+    → (q : Verdict) (x : Report) (n : ℕ) → f (reportReplied q x n) ≡ f x
+unfolding reportReplied
+leaves-replied f h Unjudged x n = refl
+leaves-replied f h Goes x n = refl
+leaves-replied f h Lost x n = refl
+leaves-replied f h (Failed code) x n = h x _ _
+leaves-replied f h Done x n = h x _ _
+leaves-replied f h Answered x n = refl
+
+leaves-judged : {B : Type 0} (f : Report → B) → ((x : Report) (r : Retries) (code : ℕ) → f (record { sending = r; message = x .message; error = code; flags = x .flags }) ≡ f x)
     → (w : Verdict) (x : Report) (s : Service) → f (reportJudged w x s) ≡ f x
 unfolding reportJudged reportSending
 leaves-judged f h Unjudged x s = refl
 leaves-judged f h Goes x s = refl
 leaves-judged f h Lost x s = refl
-leaves-judged f h (Failed code) x s = h x _
+leaves-judged f h (Failed code) x s = h x _ code
 leaves-judged f h Done x s = refl
+leaves-judged f h Answered x s = refl
 
 message-ended : (a b c d : Bool) (r : Report) (s : Service) → reportEnded (pick a Sent (pick b Exhausted (pick c Aborted (pick d Rearbitrated Going)))) r s .message ≡ pick (either a b) (retriesOf s) (r .message)
 unfolding reportEnded
@@ -185,6 +268,10 @@ message-ended false true c d r s = refl
 message-ended false false true d r s = refl
 message-ended false false false true r s = refl
 message-ended false false false false r s = refl
+
+message-fulfilled : (b : Bool) (x : Ending) (r : Report) (s : Service) → reportEnded (pick b Fulfilled x) r s .message ≡ pick b (r .message) (reportEnded x r s .message)
+message-fulfilled true x r s = unfold reportEnded in refl
+message-fulfilled false x r s = refl
 
 message-delivered : (d : Delivery) (x : Report) (r : Reception) → reportDelivered d x r .message ≡ pick (isStored d) (record { count = 0; channel = r .winner .channel }) (x .message)
 unfolding reportDelivered reportStored receiveError isStored
@@ -232,9 +319,37 @@ heard-error Good x r = go (r .winner .matched) (fitting r)
     go true false = unfold reportDelivered receiveError isSpoiled in refl
     go false b = unfold reportDelivered isSpoiled in refl
 
-error-in : (s : Stand) (h : Hearing) (x : Report) (r : Reception) → reportDelivered (deliveredIn s h r) (reportHeard h x) r .error ≡ pick (overflows h (deliveredIn s h r)) BOV (codeHeard h (x .error))
-unfolding deliveredIn
-error-in s h x r = go s
+-- the model's own frame
+own-error : (w : Verdict) (x : Report) (r : Reception) (s : Service)
+    → reportJudged w (reportDelivered Nothing (reportHeard (hearOwn w) x) r) s .error ≡ pick (overflows (hearOwn w) Nothing) BOV (codeHeard (hearOwn w) (x .error))
+unfolding reportJudged reportSending reportDelivered reportHeard hearOwn overflows codeHeard isSpoiled
+own-error Unjudged x r s = refl
+own-error Goes x r s = refl
+own-error Lost x r s = refl
+own-error (Failed code) x r s = refl
+own-error Done x r s = refl
+own-error Answered x r s = refl
+
+-- a frame that answers a request
+answered-error : (h : Hearing) (x : Report) (r : Reception) (s : Service)
+    → reportJudged (answeredAs h (heardDelivery h r)) (reportDelivered (heardDelivery h r) (reportHeard h x) r) s .error
+    ≡ pick (both (isGood h) (isNothing (heardDelivery h r))) CV (pick (overflows h (heardDelivery h r)) BOV (codeHeard h (x .error)))
+unfolding answeredAs heardDelivery reportHeard isGood overflows codeHeard
+answered-error Silent x r s = unfold reportJudged reportDelivered in refl
+answered-error Follows x r s = unfold reportJudged reportDelivered in refl
+answered-error (Fault code) x r s = unfold reportJudged reportSending in refl
+answered-error Good x r s = go (r .winner .matched) (fitting r)
+  where
+    go : (a b : Bool) → reportJudged (goodFor (pick a (pick b Stored Overflowed) Nothing)) (reportDelivered (pick a (pick b Stored Overflowed) Nothing) x r) s .error
+        ≡ pick (isNothing (pick a (pick b Stored Overflowed) Nothing)) CV (pick (isSpoiled (pick a (pick b Stored Overflowed) Nothing)) BOV (x .error))
+    go true true = unfold goodFor reportJudged reportDelivered reportStored isNothing isSpoiled in refl
+    go true false = unfold goodFor reportJudged reportSending isNothing isSpoiled in refl
+    go false b = unfold goodFor reportJudged reportSending isNothing in refl
+
+-- another module's frame, outside an attempt
+apart-error : (y : Replying) (h : Hearing) (x : Report) (r : Reception) → reportDelivered (deliveredApart y h r) (reportHeard h x) r .error ≡ pick (overflows h (deliveredApart y h r)) BOV (codeHeard h (x .error))
+unfolding deliveredApart
+apart-error silent h x r = by (underWay (r .place))
   where
     P : Delivery → Type 0
     P d = reportDelivered d (reportHeard h x) r .error ≡ pick (overflows h d) BOV (codeHeard h (x .error))
@@ -242,12 +357,32 @@ error-in s h x r = go s
     by : (u : Bool) → P (pick u (heardDelivery h r) Nothing)
     by true = heard-error h x r
     by false = none-error h x r
+apart-error (replies c f i) h x r = none-error h x r
 
-    go : (s : Stand) → P (deliveredIn s h r)
-    go away = by (underWay (r .place))
-    go between = by (underWay (r .place))
-    go (opening start) = none-error h x r
-    go (inside start levels) = none-error h x r
+-- w and h are what the sample is for the attempt and for the line
+error-in : (z : Stand) (k : Core) (t : Tally) (y : Replying) (v : ℕ) (s : Service) → k .service ≡ serviceIn z t → JudgedIn z t v (answerIn (hearFrame (k .reception) (longestOf k) v) (k .reception)) (slot-rule.verdict k v)
+    → (h : Hearing) → heard k (slot-rule.verdict k v) v ≡ h
+    → reportJudged (slot-rule.verdict k v) (reportDelivered (deliveredIn z y h (k .reception)) (reportHeard h (k .report)) (k .reception)) s .error
+    ≡ pick (untaken z h (deliveredIn z y h (k .reception))) CV (pick (overflows h (deliveredIn z y h (k .reception))) BOV (codeHeard h (k .report .error)))
+unfolding serviceIn deliveredIn untaken
+error-in away k t y v s e j h i = rw j (unfold reportJudged in apart-error y h (k .report) (k .reception))
+error-in between k t y v s e j h i = rw j (unfold reportJudged in apart-error y h (k .report) (k .reception))
+error-in (opening start) k t y v s e j h i =
+    rw (sym i ∙ heard-sender k (slot-rule.verdict k v) v (rw e (unfold made atStage drivesFrame isDriving in refl))) (own-error (slot-rule.verdict k v) (k .report) (k .reception) s)
+error-in (inside start levels) k t y v s e j h i =
+    rw (sym i ∙ heard-sender k (slot-rule.verdict k v) v (rw e (unfold made atStage drivesFrame isDriving in refl))) (own-error (slot-rule.verdict k v) (k .report) (k .reception) s)
+error-in (answered start n) k t y v s e j h i =
+    let d : drivesFrame (k .service .effort .progress) ≡ false = rw e (unfold made atStage drivesFrame isDriving in refl) in
+    let a : isAnswered (k .service .effort .progress) ≡ true = rw e (unfold made atStage isAnswered isAnswering in refl) in
+    let q : h ≡ hearFrame (k .reception) (longestOf k) v = sym i ∙ heard-asker k (slot-rule.verdict k v) v d a in
+    rw (asker-judged k v d a, q) (answered-error (hearFrame (k .reception) (longestOf k) v) (k .report) (k .reception) s)
+  where
+    asker-judged : (k : Core) (v : ℕ) → drivesFrame (k .service .effort .progress) ≡ false → isAnswered (k .service .effort .progress) ≡ true
+        → slot-rule.verdict k v ≡ answeredAs (hearFrame (k .reception) (longestOf k) v) (heardDelivery (hearFrame (k .reception) (longestOf k) v) (k .reception))
+    asker-judged k v d a =
+        unfold slot-rule.verdict verdictAs in
+        (ap (λ (x : Role). verdictAs x k v) (role-asker (k .service .effort .progress) (k .reply .going) (k .reception .place) d a)
+        ∙ ap (answeredAs (hearFrame (k .reception) (longestOf k) v)) (heard-delivery (hearFrame (k .reception) (longestOf k) v) (k .reception)))
 
 -- ---- the choice
 
@@ -265,6 +400,7 @@ start-retries t m b r = go (t .stand)
         (λ e. picked P (underWay (r .place)) t _ (λ d. refl) (λ d. picked P (both (autonomous (getD m transmitControl 0)) b) (withStand t (opening 0)) t (λ i. refl) (λ i. refl)))
     go (opening start) = refl
     go (inside start levels) = refl
+    go (answered start n) = refl
 
 start-stays : (t : Tally) (m : List ℕ) (b : Bool) (r : Reception) → isAway (startT t m b r .stand) ≡ isAway (t .stand)
 unfolding startT startIn
@@ -286,6 +422,7 @@ start-stays t m b r = go (t .stand) refl
         q ∙ sym e
     go (opening start) h = refl
     go (inside start levels) h = refl
+    go (answered start n) h = refl
 
 module _ (m : List ℕ) (k : Core) where
   abbrev Shown : Tally → Tally → Type 0
@@ -345,6 +482,7 @@ module _ (m : List ℕ) (k : Core) where
       go between h = busy-shown t _ (rw h (unfold isAway in refl)) (s ∙ rw h (unfold isAway in refl))
       go (opening start) h = busy-shown t _ (rw h (unfold isAway in refl)) (s ∙ rw h (unfold isAway in refl))
       go (inside start levels) h = busy-shown t _ (rw h (unfold isAway in refl)) (s ∙ rw h (unfold isAway in refl))
+      go (answered start n) h = busy-shown t _ (rw h (unfold isAway in refl)) (s ∙ rw h (unfold isAway in refl))
 
 -- ---- a slot of an active controller
 
@@ -357,7 +495,13 @@ module _ (c : Controller) (o : Observer) (s : Same c o) (l : ℕ) where
   v = sampleOf c l
 
   abbrev w : Verdict
-  w = judge (c .core .service .effort) v
+  w = slot-rule.verdict (c .core) v
+
+  abbrev h : Hearing
+  h = heard (c .core) w v
+
+  abbrev q : Verdict
+  q = replyVerdict (roleIn (c .core)) (c .core) v
 
   abbrev t : Tally
   t = o .tally
@@ -371,51 +515,105 @@ module _ (c : Controller) (o : Observer) (s : Same c o) (l : ℕ) where
   abbrev done : Service
   done = serviceJudged w (c .core .service)
 
+  abbrev full : Bool
+  full = fulfilledO o (hearingIn c o l)
+
+  service-in : c .core .service ≡ serviceIn (t .stand) t
+  unfolding serviceOf
+  service-in = s .joined .service
+
+  answers-same : answerC c v ≡ answerO o (longestOf (c .core)) v
+  unfolding answerO
+  answers-same = ap (λ (x : Reception). answerIn (hearFrame x (longestOf (c .core)) v) x) (s .core .frame)
+
+  counts-same : countedT t (drives (c .core)) v (answerC c v) ≡ j
+  counts-same = ap (λ (y : Reply). countedT t (drives (c .core)) v y) answers-same
+
   told : Tells t j w done
-  told = tells (c .core .service) t (drives (c .core)) v (s .joined .service) (driven-is c t (s .joined)) (s .joined .good .errors) (s .joined .good .setting)
+  told =
+      subst (λ (x : Tally). Tells t x w done) counts-same
+      (tells (c .core .service) t (drives (c .core)) v (answerC c v) w (s .joined .service) (is-judged c t (s .joined) v) (driven-is c t (s .joined)) (s .joined .good .errors) (s .joined .good .setting))
 
-  ends : ending (c .core) w ≡ endT t j
+  hears : h ≡ hearingIn c o l
+  hears = hears-same c o s v
+
+  fulfils-same : fulfils (delivers (roleIn (c .core)) h r) r (c .core .service) ≡ full
+  unfolding fulfilledO
+  fulfils-same =
+      is-fulfilled c t (s .joined) v
+      ∙ ap (λ (b : Bool). fulfilledT t b r h) (same-going (s .core .reply)) ∙ ap (λ (x : Reception). fulfilledT t (isReplying (o .reply)) x h) (s .core .frame)
+      ∙ ap (fulfilledT t (isReplying (o .reply)) (o .frame)) hears
+
+  ends : ending (c .core) w h ≡ pick full Fulfilled (endT t j)
   unfolding ending
-  ends = told .ending
+  ends = ap (λ (b : Bool). pick b Fulfilled (endingOf w done)) fulfils-same ∙ ap (λ (x : Ending). pick full Fulfilled x) (told .ending)
 
-  hears : heard (c .core) w v ≡ hearingIn c o l
-  hears = hears-same c o s v (sample-small c l)
-
-  does : delivers (roleIn (c .core)) (heard (c .core) w v) r ≡ deliveryIn c o l
+  does : delivers (roleIn (c .core)) h r ≡ deliveryIn c o l
   does =
-      delivered-in (t .stand) (c .core) t (heard (c .core) w v) (unfold serviceOf in (s .joined .service))
-      ∙ ap (λ (h : Hearing). deliveredIn (t .stand) h r) hears ∙ ap (λ (x : Reception). deliveredIn (t .stand) (hearingIn c o l) x) (s .core .frame)
+      delivered-in (t .stand) (c .core) t (o .reply) h (s .core .reply) service-in
+      ∙ ap (λ (x : Hearing). deliveredIn (t .stand) (o .reply) x r) hears ∙ ap (λ (x : Reception). deliveredIn (t .stand) (o .reply) (hearingIn c o l) x) (s .core .frame)
+
+  replies-so : repliedOf q (c .core .reply .channel) ≡ repliedIn c o l
+  replies-so = replied-in (t .stand) (c .core) t (o .reply) v (s .core .reply) service-in
 
   unended : isAway (t .stand) ≡ true → Unended j
-  unended a = away-unended t j (away-counted t (drives (c .core)) v a) a (s .joined .good .errors)
+  unended a = away-unended t j (away-counted t (drives (c .core)) v (answerO o (longestOf (c .core)) v) a) a (s .joined .good .errors)
 
-  slot-map : sampledSlot c v .memory ≡ endedMap t j (deliveredMap (deliveryIn c o l) (c .memory) (o .frame))
+  -- a service that is fulfilled waits: it has sent nothing and has errors left
+  waiting-stand : full ≡ true → waits (t .stand) ≡ true
+  unfolding fulfilledO fulfilledT
+  waiting-stand e = both-true (waits (t .stand)) (requestT (t .frame)) (both-true (both (waits (t .stand)) (requestT (t .frame))) _ e .0) .0
+
+  waiting-quiet : waits (t .stand) ≡ true → (sentAll t j ≡ false) × (exhaustedIn j ≡ false)
+  waiting-quiet = go (t .stand) refl
+    where
+      go : (x : Stand) → t .stand ≡ x → waits x ≡ true → (sentAll t j ≡ false) × (exhaustedIn j ≡ false)
+      go away i a = absurd (false≢true (unfold waits in a))
+      go between i a =
+          let e : j ≡ t = unfold countedT in (rw i (unfold countedIn in refl)) in
+          (rw e (unfold sentAll in rw i (unfold isAway in refl)), rw e (unfold exhaustedIn in le-ltb (t .setting) (t .errors) (s .joined .good .errors)))
+      go (opening start) i a = absurd (false≢true (unfold waits in a))
+      go (inside start levels) i a = absurd (false≢true (unfold waits in a))
+      go (answered start n) i a = absurd (false≢true (unfold waits in a))
+
+  slot-map : sampledSlot c v .memory
+      ≡ repliedMap (repliedIn c o l) (pick full (deliveredMap (deliveryIn c o l) (c .memory) (o .frame)) (endedMap t j (deliveredMap (deliveryIn c o l) (c .memory) (o .frame))))
   unfolding sampledSlot judgedSlot memoryJudged
   slot-map =
       let n : ℕ = c .core .service .channel in
-      ap (λ (x : Ending). memoryEnded x (memoryDelivered (delivers (roleIn (c .core)) (heard (c .core) w v) r) (c .memory) r) n) ends
-      ∙ ap (λ (d : Delivery). memoryEnded (endT t j) (memoryDelivered d (c .memory) r) n) does
-      ∙ ap (λ (x : Reception). memoryEnded (endT t j) (memoryDelivered (deliveryIn c o l) (c .memory) x) n) (s .core .frame)
-      ∙ ap (λ (m : List ℕ). memoryEnded (endT t j) m n) (delivered-map (deliveryIn c o l) (c .memory) (o .frame))
-      ∙ ended-map t j (deliveredMap (deliveryIn c o l) (c .memory) (o .frame)) n (λ a. agrees c o s .counts a .channel) unended
+      let y : ℕ = c .core .reply .channel in
+      let x : List ℕ = deliveredMap (deliveryIn c o l) (c .memory) (o .frame) in
+      ap (λ (x : Ending). memoryReplied q (memoryEnded x (memoryDelivered (delivers (roleIn (c .core)) h r) (c .memory) r) n) y) ends
+      ∙ ap (λ (d : Delivery). memoryReplied q (memoryEnded (pick full Fulfilled (endT t j)) (memoryDelivered d (c .memory) r) n) y) does
+      ∙ ap (λ (x : Reception). memoryReplied q (memoryEnded (pick full Fulfilled (endT t j)) (memoryDelivered (deliveryIn c o l) (c .memory) x) n) y) (s .core .frame)
+      ∙ ap (λ (m : List ℕ). memoryReplied q (memoryEnded (pick full Fulfilled (endT t j)) m n) y) (delivered-map (deliveryIn c o l) (c .memory) (o .frame))
+      ∙ ap (λ (m : List ℕ). memoryReplied q m y) (fulfilled-map full t j x n (ended-map t j x n (λ a. agrees c o s .counts a .channel) unended))
+      ∙ replied-map q (pick full x (endedMap t j x)) y
+      ∙ ap (λ (z : Replied). repliedMap z (pick full x (endedMap t j x))) replies-so
 
   -- the registers once the sample's effects are taken
   abbrev was : Report
   was = c .core .report
 
   abbrev heardReport : Report
-  heardReport = reportHeard (heard (c .core) w v) was
+  heardReport = reportHeard h was
 
   abbrev shown : Report
-  shown = reportDelivered (delivers (roleIn (c .core)) (heard (c .core) w v) r) heardReport r
+  shown = reportDelivered (delivers (roleIn (c .core)) h r) heardReport r
 
-  shown-message : reportJudged w shown done .message ≡ pick (isStored (deliveryIn c o l)) (record { count = 0; channel = o .frame .winner .channel }) (was .message)
+  abbrev closed : Report
+  closed = reportEnded (ending (c .core) w h) (reportJudged w shown done) done
+
+  abbrev message : Retries
+  message = pick (isStored (deliveryIn c o l)) (record { count = 0; channel = o .frame .winner .channel }) (was .message)
+
+  shown-message : reportJudged w shown done .message ≡ message
   shown-message =
-      leaves-judged (λ x. x .message) (λ x y. refl) w shown done
-      ∙ message-delivered (delivers (roleIn (c .core)) (heard (c .core) w v) r) heardReport r
+      leaves-judged (λ x. x .message) (λ x y z. refl) w shown done
+      ∙ message-delivered (delivers (roleIn (c .core)) h r) heardReport r
       ∙ ap (λ (d : Delivery). pick (isStored d) (record { count = 0; channel = r .winner .channel }) (heardReport .message)) does
       ∙ ap (λ (x : Reception). pick (isStored (deliveryIn c o l)) (record { count = 0; channel = x .winner .channel }) (heardReport .message)) (s .core .frame)
-      ∙ ap (λ (x : Retries). pick (isStored (deliveryIn c o l)) (record { count = 0; channel = o .frame .winner .channel }) x) (leaves-heard (λ x. x .message) (λ x y. refl) (heard (c .core) w v) was)
+      ∙ ap (λ (x : Retries). pick (isStored (deliveryIn c o l)) (record { count = 0; channel = o .frame .winner .channel }) x) (leaves-heard (λ x. x .message) (λ x y. refl) h was)
 
   -- 0x06 shows a service's figures only where one ends
   ended-retries : (x : Retries) → pick (either (sentAll t j) (exhaustedIn j)) (retriesOf done) x ≡ pick (either (sentAll t j) (exhaustedIn j)) (retriesT j) x
@@ -426,31 +624,45 @@ module _ (c : Controller) (o : Observer) (s : Same c o) (l : ℕ) where
       go true e = rw (unended e .errors)
       go false e = rw (told .retries e)
 
-  after-message : reportAfter (c .core) w (heard (c .core) w v) .message
-      ≡ pick (either (sentAll t j) (exhaustedIn j)) (retriesT j) (pick (isStored (deliveryIn c o l)) (record { count = 0; channel = o .frame .winner .channel }) (was .message))
+  rest-message : reportEnded (endT t j) (reportJudged w shown done) done .message ≡ pick (either (sentAll t j) (exhaustedIn j)) (retriesT j) message
+  unfolding endT restT
+  rest-message =
+      message-ended (sentAll t j) (exhaustedIn j) (abortedIn j) (both (pausing (j .stand)) (j .rear)) (reportJudged w shown done) done
+      ∙ ap (λ (x : Retries). pick (either (sentAll t j) (exhaustedIn j)) (retriesOf done) x) shown-message ∙ ended-retries message
+
+  closed-message : closed .message ≡ pick (either (sentAll t j) (exhaustedIn j)) (retriesT j) message
+  closed-message =
+      ap (λ (x : Ending). reportEnded x (reportJudged w shown done) done .message) ends ∙ message-fulfilled full (endT t j) (reportJudged w shown done) done ∙ go full refl
+    where
+      go : (b : Bool) → full ≡ b → pick b (reportJudged w shown done .message) (reportEnded (endT t j) (reportJudged w shown done) done .message) ≡ pick (either (sentAll t j) (exhaustedIn j)) (retriesT j) message
+      go true e = let z = waiting-quiet (waiting-stand e) in rw (z .0, z .1) shown-message
+      go false e = rest-message
+
+  after-message : reportAfter (c .core) w q h .message ≡ repliedMessage (repliedIn c o l) (pick (either (sentAll t j) (exhaustedIn j)) (retriesT j) message)
   unfolding reportAfter
   after-message =
-      let e : reportEnded (endT t j) (reportJudged w shown done) done .message ≡ pick (either (sentAll t j) (exhaustedIn j)) (retriesOf done) (reportJudged w shown done .message) =
-      unfold endT restT in message-ended (sentAll t j) (exhaustedIn j) (abortedIn j) (both (pausing (j .stand)) (j .rear)) (reportJudged w shown done) done in
-      ap (λ (x : Ending). reportEnded x (reportJudged w shown done) done .message) ends ∙ e
-      ∙ ap (λ (x : Retries). pick (either (sentAll t j) (exhaustedIn j)) (retriesOf done) x) shown-message ∙ ended-retries _
+      message-replied q closed (c .core .reply .channel) ∙ ap (λ (x : Replied). repliedMessage x (closed .message)) replies-so ∙ ap (repliedMessage (repliedIn c o l)) closed-message
 
-  after-error : reportAfter (c .core) w (heard (c .core) w v) .error ≡ pick (overflows (hearingIn c o l) (deliveryIn c o l)) BOV (codeHeard (hearingIn c o l) (was .error))
+  after-error : reportAfter (c .core) w q h .error
+      ≡ pick (untaken (t .stand) (hearingIn c o l) (deliveryIn c o l)) CV (pick (overflows (hearingIn c o l) (deliveryIn c o l)) BOV (codeHeard (hearingIn c o l) (was .error)))
   unfolding reportAfter
   after-error =
-      leaves-ended (λ x. x .error) (λ x y z. refl) (ending (c .core) w) (reportJudged w shown done) done
-      ∙ leaves-judged (λ x. x .error) (λ x y. refl) w shown done
-      ∙ ap (λ (d : Delivery). reportDelivered d heardReport r .error) (delivered-in (t .stand) (c .core) t (heard (c .core) w v) (unfold serviceOf in (s .joined .service)))
-      ∙ error-in (t .stand) (heard (c .core) w v) was r
-      ∙ rw (hears, s .core .frame)
+      let k : Core = c .core in
+      leaves-replied (λ x. x .error) (λ x y z. refl) q closed (k .reply .channel)
+      ∙ leaves-ended (λ x. x .error) (λ x y z. refl) (ending k w h) (reportJudged w shown done) done
+      ∙ ap (λ (d : Delivery). reportJudged w (reportDelivered d heardReport r) done .error) (delivered-in (t .stand) k t (o .reply) h (s .core .reply) service-in)
+      ∙ error-in (t .stand) k t (o .reply) v done service-in (is-judged c t (s .joined) v) h refl
+      ∙ ap (λ (x : Hearing). pick (untaken (t .stand) x (deliveredIn (t .stand) (o .reply) x r)) CV (pick (overflows x (deliveredIn (t .stand) (o .reply) x r)) BOV (codeHeard x (was .error)))) hears
+      ∙ ap (λ (y : Reception). pick (untaken (t .stand) (hearingIn c o l) (deliveredIn (t .stand) (o .reply) (hearingIn c o l) y)) CV (pick (overflows (hearingIn c o l) (deliveredIn (t .stand) (o .reply) (hearingIn c o l) y)) BOV (codeHeard (hearingIn c o l) (was .error)))) (s .core .frame)
 
-  after-sending : reportAfter (c .core) w (heard (c .core) w v) .sending ≡ pick (ltb (t .errors) (j .errors)) (retriesT j) (was .sending)
+  after-sending : reportAfter (c .core) w q h .sending ≡ pick (ltb (t .errors) (j .errors)) (retriesT j) (was .sending)
   unfolding reportAfter
   after-sending =
-      leaves-ended (λ x. x .sending) (λ x y z. refl) (ending (c .core) w) (reportJudged w shown done) done
+      leaves-replied (λ x. x .sending) (λ x y z. refl) q closed (c .core .reply .channel)
+      ∙ leaves-ended (λ x. x .sending) (λ x y z. refl) (ending (c .core) w h) (reportJudged w shown done) done
       ∙ told .sending shown
       ∙ ap (λ (x : Retries). pick (ltb (t .errors) (j .errors)) (retriesT j) x)
-      (sending-delivered (delivers (roleIn (c .core)) (heard (c .core) w v) r) heardReport r ∙ leaves-heard (λ x. x .sending) (λ x y. refl) (heard (c .core) w v) was)
+      (sending-delivered (delivers (roleIn (c .core)) h r) heardReport r ∙ leaves-heard (λ x. x .sending) (λ x y. refl) h was)
 
   abbrev m : List ℕ
   m = sampledSlot c v .memory
@@ -459,52 +671,65 @@ module _ (c : Controller) (o : Observer) (s : Same c o) (l : ℕ) where
   unfolding sampledSlot judgedSlot judgedCore
   slot-report = refl
 
-  judged-report : judgedCore c v .report ≡ reportAfter (c .core) w (heard (c .core) w v)
+  judged-report : judgedCore c v .report ≡ reportAfter (c .core) w q h
   unfolding judgedCore coreJudged
   judged-report = refl
 
-  slot-message : sampledSlot c v .core .report .message
-      ≡ pick (either (sentAll t j) (exhaustedIn j)) (retriesT j) (pick (isStored (deliveryIn c o l)) (record { count = 0; channel = o .frame .winner .channel }) (was .message))
+  slot-message : sampledSlot c v .core .report .message ≡ repliedMessage (repliedIn c o l) (pick (either (sentAll t j) (exhaustedIn j)) (retriesT j) message)
   slot-message = ap (λ (x : Report). x .message) slot-report ∙ follows-message m (judgedCore c v) ∙ ap (λ (x : Report). x .message) judged-report ∙ after-message
 
-  slot-error : sampledSlot c v .core .report .error ≡ pick (overflows (hearingIn c o l) (deliveryIn c o l)) BOV (codeHeard (hearingIn c o l) (was .error))
+  slot-error : sampledSlot c v .core .report .error
+      ≡ pick (untaken (t .stand) (hearingIn c o l) (deliveryIn c o l)) CV (pick (overflows (hearingIn c o l) (deliveryIn c o l)) BOV (codeHeard (hearingIn c o l) (was .error)))
   slot-error = ap (λ (x : Report). x .error) slot-report ∙ follows-error m (judgedCore c v) ∙ ap (λ (x : Report). x .error) judged-report ∙ after-error
 
-  -- the tally after the choice, and after the start
+  slot-flags : sampledSlot c v .core .report .flags ≡ reportAfter (c .core) w q h .flags
+  slot-flags = ap (λ (x : Report). x .flags) slot-report ∙ flags-follow m (judgedCore c v) ∙ ap (λ (x : Report). x .flags) judged-report
+
+  -- the tally once the sample's effects are taken, and after the choice
+  abbrev ended : Tally
+  ended = pick full none (endedT j)
+
+  ended-so : endedC c t v ≡ ended
+  ended-so = ended-same c o s v m ∙ unfold sampledO in refl
+
   abbrev chosenTally : Tally
-  chosenTally = chooseT (endedT j) m (longestOf (c .core)) (isActive (after c o v m .activity .mode)) (after c o v m .frame)
+  chosenTally = chooseT ended m (longestOf (c .core)) (isActive (after c o v m .activity .mode)) (after c o v m .frame)
 
-  judged-service : judgedCore c v .service ≡ serviceOf (endedT j)
-  unfolding judgedCore
-  judged-service = sampled-service c t (s .joined) v m
+  module _ (f : Fine c) (bytes : Below 256 m) where
+    shown-choice : choiceMade m (idleDue (judgedCore c v)) .report .sending
+        ≡ pick (both (isAway (ended .stand)) (not (isAway (chosenTally .stand)))) (retriesT chosenTally) (pick (ltb (t .errors) (j .errors)) (retriesT j) (was .sending))
+    shown-choice =
+        let k : Core = idleDue (judgedCore c v) in
+        let i = idled-core c o s f v (sample-small c l) bytes in
+        choice-shown m k ended (idle-service (judgedCore c v) ∙ judged-service c o s f v (sample-small c l) bytes ∙ ap serviceOf ended-so)
+        ∙ rw (i .activity, i .frame)
+        (ap (λ (x : Retries). pick (both (isAway (ended .stand)) (not (isAway (chosenTally .stand)))) (retriesT chosenTally) x)
+        (ap (λ (x : Report). x .sending) (idle-report (judgedCore c v) ∙ judged-report) ∙ after-sending))
 
-  shown-choice : choiceMade m (idleDue (judgedCore c v)) .report .sending
-      ≡ pick (both (isAway (endedT j .stand)) (not (isAway (chosenTally .stand)))) (retriesT chosenTally) (pick (ltb (t .errors) (j .errors)) (retriesT j) (was .sending))
-  shown-choice =
-      let k : Core = idleDue (judgedCore c v) in
-      let i = idled-core c o s v (sample-small c l) in
-      choice-shown m k (endedT j) (idle-service (judgedCore c v) ∙ judged-service)
-      ∙ rw (i .activity, i .frame)
-      (ap (λ (x : Retries). pick (both (isAway (endedT j .stand)) (not (isAway (chosenTally .stand)))) (retriesT chosenTally) x)
-      (ap (λ (x : Report). x .sending) (idle-report (judgedCore c v) ∙ judged-report) ∙ after-sending))
+    tally-after : goesOnO (after c o v m) (longestOf (c .core)) m .tally ≡ startT chosenTally m (freeO (after c o v m .line)) (after c o v m .frame)
+    unfolding goesOnO
+    tally-after =
+        let e : after c o v m .tally ≡ ended = idle-tally (sampledO o (longestOf (c .core)) (drives (c .core)) v m) ∙ unfold sampledO in refl in
+        rw e
 
-  tally-after : goesOnO (after c o v m) (longestOf (c .core)) m .tally ≡ startT chosenTally m (freeO (after c o v m .line)) (after c o v m .frame)
-  unfolding goesOnO
-  tally-after =
-      let e : after c o v m .tally ≡ endedT j = idle-tally (sampledO o (longestOf (c .core)) (drives (c .core)) v m) ∙ unfold sampledO in refl in
-      rw e
+    ended-away : isAway (ended .stand) ≡ either full (isAway (endedT j .stand))
+    ended-away = go full
+      where
+        go : (b : Bool) → isAway (pick b none (endedT j) .stand) ≡ either b (isAway (endedT j .stand))
+        go true = unfold none isAway in refl
+        go false = refl
 
-  slot-sending : (u : Observer) → u ≡ goesOnO (after c o v m) (longestOf (c .core)) m → sampledSlot c v .core .report .sending
-      ≡ pick (both (isAway (endedT j .stand)) (not (isAway (u .tally .stand)))) (retriesT (u .tally)) (pick (ltb (t .errors) (j .errors)) (retriesT j) (was .sending))
-  slot-sending u e =
-      let q : u .tally ≡ startT chosenTally m (freeO (after c o v m .line)) (after c o v m .frame) = ap (λ (x : Observer). x .tally) e ∙ tally-after in
-      ap (λ (x : Report). x .sending) slot-report ∙ follows-sending m (judgedCore c v) ∙ shown-choice
-      ∙ rw (q, start-stays chosenTally m (freeO (after c o v m .line)) (after c o v m .frame), start-retries chosenTally m (freeO (after c o v m .line)) (after c o v m .frame))
+    slot-sending : (u : Observer) → u ≡ goesOnO (after c o v m) (longestOf (c .core)) m → sampledSlot c v .core .report .sending
+        ≡ pick (both (either full (isAway (endedT j .stand))) (not (isAway (u .tally .stand)))) (retriesT (u .tally)) (pick (ltb (t .errors) (j .errors)) (retriesT j) (was .sending))
+    slot-sending u e =
+        let z : u .tally ≡ startT chosenTally m (freeO (after c o v m .line)) (after c o v m .frame) = ap (λ (x : Observer). x .tally) e ∙ tally-after in
+        ap (λ (x : Report). x .sending) slot-report ∙ follows-sending m (judgedCore c v) ∙ shown-choice
+        ∙ rw (z, start-stays chosenTally m (freeO (after c o v m .line)) (after c o v m .frame), start-retries chosenTally m (freeO (after c o v m .line)) (after c o v m .frame), ended-away)
 
 -- ---- the six bits of a slot
 
-sent-is : (a b c d : Bool) → flags.isSent (pick a Sent (pick b Exhausted (pick c Aborted (pick d Rearbitrated Going)))) ≡ a
-unfolding flags.isSent
+sent-is : (a b c d : Bool) → isSent (pick a Sent (pick b Exhausted (pick c Aborted (pick d Rearbitrated Going)))) ≡ a
+unfolding isSent
 sent-is true b c d = refl
 sent-is false true c d = refl
 sent-is false false true d = refl
@@ -520,8 +745,8 @@ pub record Leaves (c : Controller) (o : Observer) (e : Event) (d : Controller) :
   pub error : d .core .report .error ≡ errorO c o e
   pub rst : d .core .report .flags .rst ≡ flagO true 7 (λ levels. false) (c .core .report .flags .rst) o e
   pub te : d .core .report .flags .te ≡ flagO false 4 (λ levels. exhaustedIn (judgedIn c o levels)) (c .core .report .flags .te) o e
-  pub tok : d .core .report .flags .tok ≡ flagO false 3 (λ levels. sentAll (o .tally) (judgedIn c o levels)) (c .core .report .flags .tok) o e
-  pub re : d .core .report .flags .re ≡ flagO false 2 (λ levels. isSpoiled (deliveryIn c o levels)) (c .core .report .flags .re) o e
+  pub tok : d .core .report .flags .tok ≡ flagO false 3 (λ levels. either (sentAll (o .tally) (judgedIn c o levels)) (isWhole (repliedIn c o levels))) (c .core .report .flags .tok) o e
+  pub re : d .core .report .flags .re ≡ flagO false 2 (λ levels. either (isSpoiled (deliveryIn c o levels)) (isBroken (repliedIn c o levels))) (c .core .report .flags .re) o e
   pub rok : d .core .report .flags .rok ≡ flagO false 1 (λ levels. both (isStored (deliveryIn c o levels)) (rak o)) (c .core .report .flags .rok) o e
   pub rnok : d .core .report .flags .rnok ≡ flagO false 0 (λ levels. both (isStored (deliveryIn c o levels)) (not (rak o))) (c .core .report .flags .rnok) o e
 
@@ -538,35 +763,80 @@ unfolding memoryO sendingO messageO errorO flagO
 rest-leaves c o l a = record { memory = rw a; sending = rw a; message = rw a; error = rw a; rst = rw a; te = rw a; tok = rw a; re = rw a; rok = rw a; rnok = rw a }
 
 module _ (c : Controller) (o : Observer) (s : Same c o) (l : ℕ) (a : isActive (o .activity .mode) ≡ true) where
-  asked-rak : flags.asked (c .core .reception) ≡ rak o
-  unfolding flags.asked
+  abbrev now : Flags
+  now = sampledSlot c (sampleOf c l) .core .report .flags
+
+  abbrev before : Flags
+  before = c .core .report .flags
+
+  abbrev judged : Verdict
+  judged = slot-rule.verdict (c .core) (sampleOf c l)
+
+  abbrev replying : Verdict
+  replying = replyVerdict (roleIn (c .core)) (c .core) (sampleOf c l)
+
+  abbrev hearing : Hearing
+  hearing = heard (c .core) judged (sampleOf c l)
+
+  asked-rak : acknowledgeAsked (getD (c .core .reception .bytes) 1 0) ≡ rak o
   asked-rak = ap (λ (x : Reception). acknowledgeAsked (getD (x .bytes) 1 0)) (s .core .frame)
 
-  slot-te : sampledSlot c (sampleOf c l) .core .report .flags .te ≡ pick (exhaustedIn (judgedIn c o l)) true (c .core .report .flags .te)
+  slot-rst : now .rst ≡ before .rst
+  slot-rst = ap (λ (f : Flags). f .rst) (slot-flags c o s l) ∙ after-rst (c .core) judged replying hearing
+
+  slot-te : now .te ≡ pick (exhaustedIn (judgedIn c o l)) true (before .te)
   unfolding exhaustedIn
-  slot-te = demand.slot-te c (o .tally) (s .joined) (sampleOf c l)
+  slot-te = demand.slot-te c (o .tally) (s .joined) (sampleOf c l) ∙ ap (λ (x : Tally). pick (ltb (x .setting) (x .errors)) true (before .te)) (counts-same c o s l)
 
-  slot-tok : sampledSlot c (sampleOf c l) .core .report .flags .tok ≡ pick (sentAll (o .tally) (judgedIn c o l)) true (c .core .report .flags .tok)
+  sent-so : isSent (ending (c .core) judged hearing) ≡ sentAll (o .tally) (judgedIn c o l)
+  sent-so = ap isSent (ends c o s l) ∙ go (fulfilledO o (hearingIn c o l)) refl
+    where
+      go : (b : Bool) → fulfilledO o (hearingIn c o l) ≡ b → isSent (pick b Fulfilled (endT (o .tally) (judgedIn c o l))) ≡ sentAll (o .tally) (judgedIn c o l)
+      go true e = unfold isSent in sym (waiting-quiet c o s l (waiting-stand c o s l e) .0)
+      go false e =
+          unfold endT restT in
+          sent-is (sentAll (o .tally) (judgedIn c o l)) (exhaustedIn (judgedIn c o l)) (abortedIn (judgedIn c o l)) (both (pausing (judgedIn c o l .stand)) (judgedIn c o l .rear))
+
+  slot-tok : now .tok ≡ pick (either (sentAll (o .tally) (judgedIn c o l)) (isWhole (repliedIn c o l))) true (before .tok)
   slot-tok =
-      let e : flags.isSent (endT (o .tally) (judgedIn c o l)) ≡ sentAll (o .tally) (judgedIn c o l) = unfold endT restT in sent-is (sentAll (o .tally) (judgedIn c o l)) (exhaustedIn (judgedIn c o l)) (abortedIn (judgedIn c o l)) (both (pausing (judgedIn c o l .stand)) (judgedIn c o l .rear)) in
-      flags.slot-tok c (sampleOf c l) ∙ ap (λ (x : Ending). pick (flags.isSent x) true (c .core .report .flags .tok)) (ends c o s l) ∙ ap (λ (b : Bool). pick b true (c .core .report .flags .tok)) e
+      let e : isDone replying ≡ isWhole (repliedIn c o l) = done-whole replying (c .core .reply .channel) ∙ ap isWhole (replies-so c o s l) in
+      ap (λ (f : Flags). f .tok) (slot-flags c o s l) ∙ after-tok (c .core) judged replying hearing
+      ∙ ap (λ (b : Bool). pick (either b (isDone replying)) true (before .tok)) sent-so ∙ ap (λ (b : Bool). pick (either (sentAll (o .tally) (judgedIn c o l)) b) true (before .tok)) e
 
-  slot-leaves : nextO c o (Slot l) ≡ goesOnO (after c o (sampleOf c l) (sampledSlot c (sampleOf c l) .memory)) (longestOf (c .core)) (sampledSlot c (sampleOf c l) .memory)
+  slot-re : now .re ≡ pick (either (isSpoiled (deliveryIn c o l)) (isBroken (repliedIn c o l))) true (before .re)
+  slot-re =
+      let e : isFailed replying ≡ isBroken (repliedIn c o l) = failed-broken replying (c .core .reply .channel) ∙ ap isBroken (replies-so c o s l) in
+      ap (λ (f : Flags). f .re) (slot-flags c o s l) ∙ after-re (c .core) judged replying hearing
+      ∙ ap (λ (d : Delivery). pick (either (isSpoiled d) (isFailed replying)) true (before .re)) (does c o s l) ∙ ap (λ (b : Bool). pick (either (isSpoiled (deliveryIn c o l)) b) true (before .re)) e
+
+  slot-rok : now .rok ≡ pick (both (isStored (deliveryIn c o l)) (rak o)) true (before .rok)
+  slot-rok =
+      ap (λ (f : Flags). f .rok) (slot-flags c o s l) ∙ after-rok (c .core) judged replying hearing
+      ∙ ap (λ (d : Delivery). pick (both (isStored d) (acknowledgeAsked (getD (c .core .reception .bytes) 1 0))) true (before .rok)) (does c o s l)
+      ∙ ap (λ (b : Bool). pick (both (isStored (deliveryIn c o l)) b) true (before .rok)) asked-rak
+
+  slot-rnok : now .rnok ≡ pick (both (isStored (deliveryIn c o l)) (not (rak o))) true (before .rnok)
+  slot-rnok =
+      ap (λ (f : Flags). f .rnok) (slot-flags c o s l) ∙ after-rnok (c .core) judged replying hearing
+      ∙ ap (λ (d : Delivery). pick (both (isStored d) (not (acknowledgeAsked (getD (c .core .reception .bytes) 1 0)))) true (before .rnok)) (does c o s l)
+      ∙ ap (λ (b : Bool). pick (both (isStored (deliveryIn c o l)) (not b)) true (before .rnok)) asked-rak
+
+  slot-leaves : Fine c → Below 256 (sampledSlot c (sampleOf c l) .memory)
+      → nextO c o (Slot l) ≡ goesOnO (after c o (sampleOf c l) (sampledSlot c (sampleOf c l) .memory)) (longestOf (c .core)) (sampledSlot c (sampleOf c l) .memory)
       → Leaves c o (Slot l) (sampledSlot c (sampleOf c l))
   unfolding memoryO sendingO messageO errorO flagO
-  slot-leaves n =
-      let v : ℕ = sampleOf c l in
+  slot-leaves f b n =
       record {
         memory = rw a (slot-map c o s l);
-        sending = rw a (slot-sending c o s l (nextO c o (Slot l)) n);
+        sending = rw a (slot-sending c o s l f b (nextO c o (Slot l)) n);
         message = rw a (slot-message c o s l);
         error = rw a (slot-error c o s l);
-        rst = rw a (flags.slot-rst c v);
+        rst = rw a slot-rst;
         te = rw a slot-te;
         tok = rw a slot-tok;
-        re = rw a (flags.slot-re c v ∙ ap (λ (d : Delivery). pick (isSpoiled d) true (c .core .report .flags .re)) (does c o s l));
-        rok = rw a (flags.slot-rok c v ∙ rw (does c o s l, asked-rak));
-        rnok = rw a (flags.slot-rnok c v ∙ rw (does c o s l, asked-rak));
+        re = rw a slot-re;
+        rok = rw a slot-rok;
+        rnok = rw a slot-rnok;
       }
 
 -- ---- a host write
@@ -587,6 +857,7 @@ asked-stays t a v = go (t .stand) refl
     go between h = ap isAway asks-stays
     go (opening start) h = ap isAway asks-stays
     go (inside start levels) h = ap isAway asks-stays
+    go (answered start n) h = ap isAway asks-stays
 
 quiet-ended : (u : Tally) (x : Report) (s : Service) → exhaustedIn u ≡ false → reportEnded (restT u) x s ≡ x
 unfolding restT
@@ -710,8 +981,8 @@ module _ (c : Controller) (o : Observer) (s : Same c o) (a value : ℕ) where
         error = left-wrote (λ x. x .error) 0 refl (λ x y. refl);
         rst = flag-wrote (λ x. x .rst) 7 true (λ levels. false) refl (λ x. refl);
         te = flag-wrote (λ x. x .te) 4 false (λ levels. exhaustedIn (judgedIn c o levels)) refl (λ x. refl);
-        tok = flag-wrote (λ x. x .tok) 3 false (λ levels. sentAll (o .tally) (judgedIn c o levels)) refl (λ x. refl);
-        re = flag-wrote (λ x. x .re) 2 false (λ levels. isSpoiled (deliveryIn c o levels)) refl (λ x. refl);
+        tok = flag-wrote (λ x. x .tok) 3 false (λ levels. either (sentAll (o .tally) (judgedIn c o levels)) (isWhole (repliedIn c o levels))) refl (λ x. refl);
+        re = flag-wrote (λ x. x .re) 2 false (λ levels. either (isSpoiled (deliveryIn c o levels)) (isBroken (repliedIn c o levels))) refl (λ x. refl);
         rok = flag-wrote (λ x. x .rok) 1 false (λ levels. both (isStored (deliveryIn c o levels)) (rak o)) refl (λ x. refl);
         rnok = flag-wrote (λ x. x .rnok) 0 false (λ levels. both (isStored (deliveryIn c o levels)) (not (rak o))) refl (λ x. refl);
       }
@@ -815,14 +1086,15 @@ heard-so : (c : Controller) (o : Observer) → Same c o → (e : Event) → Hear
 heard-so c o s Reset = tt
 heard-so c o s (Write a v) = tt
 heard-so c o s (Read a) = tt
-heard-so c o s (Slot l) = hears-same c o s (sampleOf c l) (sample-small c l)
+heard-so c o s (Slot l) = hears-same c o s (sampleOf c l)
 
-module _ (c : Controller) (o : Observer) (s : Same c o) (f : Fine c) where
-  slot-value : (l : ℕ) (d : Controller) → step c (Slot l) ≡ answered d → Answers c o (Slot l)
+-- z: an answer that comes is not at its longest
+module _ (c : Controller) (o : Observer) (s : Same c o) (f : Fine c) (z : (v : ℕ) → v < 2 → Coming (longestOf (c .core)) (o .tally .stand) (answerC c v)) where
+  slot-value : (l : ℕ) (d : Controller) → step c (Slot l) ≡ run.answered d → Answers c o (Slot l)
   slot-value l d h y =
-      let n : next c (Slot l) ≡ d = unfold answered in accepted-next c (o .tally) (Slot l) (transmitted (getD (d .memory) lineControl 0) (drives (d .core))) d h in
-      let e : step c (Slot l) .value ≡ transmitted (getD (d .memory) lineControl 0) (drives (d .core)) = ap (λ (x : Answer). x .value) h ∙ unfold answered accept in refl in
-      let q : drives (next c (Slot l) .core) ≡ levelO (nextO c o (Slot l)) = agrees (next c (Slot l)) (nextO c o (Slot l)) (same-next c o s f (Slot l) (step-of c (Slot l))) .level in
+      let n : next c (Slot l) ≡ d = unfold run.answered in accepted-next c (o .tally) (Slot l) (transmitted (getD (d .memory) lineControl 0) (drives (d .core))) d h in
+      let e : step c (Slot l) .value ≡ transmitted (getD (d .memory) lineControl 0) (drives (d .core)) = ap (λ (x : Answer). x .value) h ∙ unfold run.answered accept in refl in
+      let q : drives (next c (Slot l) .core) ≡ levelO (nextO c o (Slot l)) = agrees (next c (Slot l)) (nextO c o (Slot l)) (same-next c o s f z (Slot l) (step-of c (Slot l)) .same) .level in
       e ∙ ap (λ (x : Controller). transmitted (getD (x .memory) lineControl 0) (drives (x .core))) (sym n) ∙ ap (transmitted (getD (next c (Slot l) .memory) lineControl 0)) q
 
   rest-value : (l : ℕ) → isActive (c .core .activity .mode) ≡ false → step c (Slot l) ≡ restedSlot c → Answers c o (Slot l)
@@ -830,7 +1102,7 @@ module _ (c : Controller) (o : Observer) (s : Same c o) (f : Fine c) where
       let n : next c (Slot l) ≡ c = unfold restedSlot in accepted-next c (o .tally) (Slot l) (transmitted (getD (c .memory) lineControl 0) 1) c h in
       let e : step c (Slot l) .value ≡ transmitted (getD (c .memory) lineControl 0) 1 = ap (λ (x : Answer). x .value) h ∙ unfold restedSlot accept in refl in
       let m : nextO c o (Slot l) ≡ o = rested-observer l a h in
-      let q : levelO (nextO c o (Slot l)) ≡ 1 = ap levelO m ∙ quiet-level (sym (active-is c o s f) ∙ a) in
+      let q : levelO (nextO c o (Slot l)) ≡ 1 = ap levelO m ∙ quiet-level (sym (active-is c o s f z) ∙ a) in
       e ∙ ap (λ (x : Controller). transmitted (getD (x .memory) lineControl 0) 1) (sym n) ∙ ap (transmitted (getD (next c (Slot l) .memory) lineControl 0)) (sym q)
     where
       quiet-level : isActive (o .activity .mode) ≡ false → levelO o ≡ 1
@@ -840,29 +1112,29 @@ module _ (c : Controller) (o : Observer) (s : Same c o) (f : Fine c) where
       rested-observer l a h =
           let k : ℕ = transmitted (getD (c .memory) lineControl 0) 1 in
           let i : step c (Slot l) ≡ accept k c = h ∙ unfold restedSlot in refl in
-          taken c o s f (Slot l) k c i ∙ rested-by c o s f l (sym (active-is c o s f) ∙ a)
+          taken c o s f z (Slot l) k c i ∙ rested-by c o s f z l (sym (active-is c o s f z) ∙ a)
 
   read-value : (a : ℕ) → Answers c o (Read a)
   read-value a y = accepted-read c a (read-called c a) y ∙ host-reads c o s a
 
-  went-settles : (l : ℕ) → isActive (c .core .activity .mode) ≡ true → step c (Slot l) ≡ answered (activeSlot c l) → Settles c o (Slot l)
+  went-settles : (l : ℕ) → isActive (c .core .activity .mode) ≡ true → step c (Slot l) ≡ run.answered (activeSlot c l) → Settles c o (Slot l)
   unfolding activeSlot
   went-settles l a h =
       let d : Controller = sampledSlot c (sampleOf c l) in
       let k : ℕ = transmitted (getD (d .memory) lineControl 0) (drives (d .core)) in
-      let i : step c (Slot l) ≡ accept k d = h ∙ unfold answered in refl in
-      let b : isActive (o .activity .mode) ≡ true = sym (active-is c o s f) ∙ a in
+      let i : step c (Slot l) ≡ accept k d = h ∙ unfold run.answered in refl in
+      let b : isActive (o .activity .mode) ≡ true = sym (active-is c o s f z) ∙ a in
       let n : next c (Slot l) ≡ d = accepted-next c (o .tally) (Slot l) k d i in
       settles-taken c o (Slot l) (slot-value l d h) (heard-so c o s (Slot l)) d n (accepted-so c (o .tally) (Slot l) k d i)
-      (slot-leaves c o s l b (taken c o s f (Slot l) k d i ∙ followed-by c o s f l d b n))
+      (slot-leaves c o s l b f (bytes-after c o s f z l d n) (taken c o s f z (Slot l) k d i ∙ followed-by c o s f z l d b n))
 
   rested-settles : (l : ℕ) → isActive (c .core .activity .mode) ≡ false → step c (Slot l) ≡ restedSlot c → Settles c o (Slot l)
   rested-settles l a h =
       let k : ℕ = transmitted (getD (c .memory) lineControl 0) 1 in
       let i : step c (Slot l) ≡ accept k c = h ∙ unfold restedSlot in refl in
-      settles-taken c o (Slot l) (rest-value l a h) (heard-so c o s (Slot l)) c (accepted-next c (o .tally) (Slot l) k c i) (accepted-so c (o .tally) (Slot l) k c i) (rest-leaves c o l (sym (active-is c o s f) ∙ a))
+      settles-taken c o (Slot l) (rest-value l a h) (heard-so c o s (Slot l)) c (accepted-next c (o .tally) (Slot l) k c i) (accepted-so c (o .tally) (Slot l) k c i) (rest-leaves c o l (sym (active-is c o s f z) ∙ a))
 
-  settles : (e : Event) → Step c e → Settles c o e
+  pub settles : (e : Event) → Step c e → Settles c o e
   settles e (refusal n h) = let y = refused-not c (o .tally) e n h in settles-refused c o e (no-value c o e (refused-value c e n h) y) (heard-so c o s e) (refused-next c (o .tally) e n h) y
   settles Reset (reset h) = settles-taken c o Reset (accepted-value c (resetAll c) Reset h) tt (resetAll c) (accepted-next c (o .tally) Reset 0 (resetAll c) h) (accepted-so c (o .tally) Reset 0 (resetAll c) h) (reset-leaves c o)
   settles (Write a v) (wrote h) =
@@ -871,11 +1143,3 @@ module _ (c : Controller) (o : Observer) (s : Same c o) (f : Fine c) where
   settles (Read a) (gave value h) = settles-taken c o (Read a) (read-value a) tt c (accepted-next c (o .tally) (Read a) value c h) (accepted-so c (o .tally) (Read a) value c h) (read-leaves c o a)
   settles (Slot l) (went a h) = went-settles l a h
   settles (Slot l) (rested a h) = rested-settles l a h
-
-from : (c : Controller) (o : Observer) → Same c o → Fine c → (es : List Event) → SettledOver c o es
-from c o s f [] = tt
-from c o s f (e ∷ es) = (settles c o s f e (step-of c e), from (next c e) (nextO c o e) (same-next c o s f e (step-of c e)) (fine-next c e f) es)
-
--- every list of events from a fresh controller
-pub settled-over : (es : List Event) → SettledOver fresh atReset es
-settled-over es = from fresh atReset same-fresh fine-fresh es

@@ -2,21 +2,22 @@
 --   at-below, set-below, .. == reading and writing a row        fits-sent, setting-small == the frame that a channel sends and MR
 --   stored-below, cher-below, .. == what is written to the memory map        buffer-limits, winner-limits, ready-named == who takes a frame, who sends
 use Prim.Native.Nat.{ℕ, zero, suc, _+_, _-_, _%_, _≤_, _<_}
-use mathlib.Core.Bool.{Bool, true}
+use mathlib.Core.Bool.{Bool, true, false, not, false≢true}
 use mathlib.Core.List.{List}
-use mathlib.Core.Path.{_≡_, refl, ap}
+use mathlib.Core.Path.{_≡_, refl, ap, sym}
 use native.Mathlib.Omega.{arith}
-use borrow.Author.Tests.{leb-true}
+use borrow.Author.Tests.{leb-true, ne-eqb, eqb-true}
 use lib.Dec.{eqb, leb}
 use lib.ListN.{length, getD, set, take, drop, replicate}
-use Rattle.line.specs.Bits.{Below, none, one}
+use Rattle.line.specs.Bits.{pick, Below, none, one}
 use Rattle.line.specs.Frame.{Fits}
 use Rattle.line.proofs.Laws.{picked}
-use Rattle.rules.specs.Definitions.Registers.{transmitControl, readOnly, resetValues, retrySetting}
+use Rattle.rules.specs.Definitions.Registers.{both, transmitControl, readOnly, resetValues, retrySetting}
 use Rattle.rules.specs.Definitions.Longest.{capacity}
-use Rattle.rules.specs.Definitions.Channels.{base, bufferOf, twelve, withCher, withChtx, withChrx, channels, channelAt, lengthOf, noBuffer, ownBuffer, linkedBuffer, nobody, winnerOf, lowest, lowestListening, won, winnerFor, takes, asksToSend, sendable, ready, lowestReady}
-use Rattle.rules.specs.Definitions.Mailbox.{mailboxAt, statusByte, laidFrom, stored, mailboxBytes, dataIn, sentFrame, retagged, rowsWritten, markedCher, markedChtx, markedChrx, resetMemory}
+use Rattle.rules.specs.Definitions.Channels.{base, bufferOf, twelve, withCher, withChtx, withChrx, channels, channelAt, lengthOf, noBuffer, ownBuffer, linkedBuffer, nobody, winnerOf, lowest, lowestListening, won, winnerFor, takes, asksToSend, sendable, ready, lowestReady, statusBits, immediateReply, settlesReply, ifReplies, replierFor, cher, requestDetection, matches}
+use Rattle.rules.specs.Definitions.Mailbox.{mailboxAt, statusByte, laidFrom, stored, mailboxBytes, dataIn, frameWith, asksReply, sentFrame, replyFrame, retagged, rowsWritten, markedCher, markedChtx, markedChrx, resetMemory}
 use Rattle.rules.proofs.Logic.{both-true}
+use Rattle.rules.proofs.Matching.Lowest.{found}
 use Rattle.rules.proofs.Ranges.Limits.{WinnerLimits}
 use Rattle.rules.specs.declared.Buffer.{Buffer}
 use Rattle.rules.specs.declared.Choice.{Choice}
@@ -64,33 +65,72 @@ unfolding mailboxBytes
 mailbox-length m p k zero = refl
 mailbox-length m p k (suc n) = ap suc (mailbox-length m p (k + 1) n)
 
+pub fits-with : {longest : ℕ} (m : List ℕ) (c high low n : ℕ) → Below 256 m → high < 256 → low < 256 → n ≤ longest → Fits longest (frameWith m c high low n)
+unfolding frameWith twelve
+fits-with m c high low n b h l s =
+    let long = mailbox-length m (bufferOf m c .pointer) 1 n in
+    record { identifier = omega arith; command = omega arith; size = omega arith; bytes = mailbox-below b (bufferOf m c .pointer) 1 n }
+
+sent-small : (b : Bool) (l longest : ℕ) → dataIn l ≤ longest → pick b 0 (dataIn l) ≤ longest
+sent-small true l longest h = omega arith
+sent-small false l longest h = h
+
 pub fits-sent : (m : List ℕ) (c : ℕ) → Below 256 m → Fits capacity (sentFrame m c)
-unfolding sentFrame twelve
+unfolding sentFrame
 fits-sent m c b =
-    let high = at-below b (base c) in
-    let low = at-below b (base c + 1) in
-    let long = mailbox-length m (bufferOf m c .pointer) 1 (dataIn (bufferOf m c .length)) in
-    record {
-      identifier = omega arith;
-      command = omega arith;
-      size = omega (arith, data-small (bufferOf m c .length));
-      bytes = mailbox-below b (bufferOf m c .pointer) 1 (dataIn (bufferOf m c .length));
-    }
+    fits-with m c _ _ _ b (at-below b (base c)) (at-below b (base c + 1)) (sent-small (asksReply (getD m (base c + 1) 0)) (bufferOf m c .length) capacity (data-small (bufferOf m c .length)))
 
 -- a channel that is ready has no more data bytes than may be sent
 ready-data : (l longest : ℕ) → l ≤ longest + 1 → dataIn l ≤ longest
 unfolding dataIn
 ready-data l longest h = picked (λ x. x ≤ longest) (eqb l 0) 0 ((l - 1) % (capacity + 1)) (λ e. omega arith) (λ e. omega arith)
 
+ready-small : (m : List ℕ) (longest c : ℕ) → sendable (bufferOf m c) longest ≡ true → dataIn (bufferOf m c .length) ≤ longest
+unfolding sendable
+ready-small m longest c e =
+    let d = both-true (bufferOf m c .legal) _ e in
+    ready-data (bufferOf m c .length) longest (leb-true (bufferOf m c .length) (longest + 1) (d .1))
+
 pub fits-ready : (m : List ℕ) (longest c : ℕ) → Below 256 m → ready m longest c ≡ true → Fits longest (sentFrame m c)
-unfolding ready sendable sentFrame
+unfolding ready sentFrame
 fits-ready m longest c b e =
-    let f = fits-sent m c b in
     let s = both-true (asksToSend (channelAt m c)) _ e in
-    let d = both-true (bufferOf m c .legal) _ (s .1) in
-    let long = mailbox-length m (bufferOf m c .pointer) 1 (dataIn (bufferOf m c .length)) in
-    let small = ready-data (bufferOf m c .length) longest (leb-true (bufferOf m c .length) (longest + 1) (d .1)) in
-    record { identifier = f .identifier; command = f .command; size = omega arith; bytes = f .bytes }
+    fits-with m c _ _ _ b (at-below b (base c)) (at-below b (base c + 1)) (sent-small (asksReply (getD m (base c + 1) 0)) (bufferOf m c .length) longest (ready-small m longest c (s .1)))
+
+-- and so has one that replies
+settles-sendable : (a b c d : Bool) → both a (pick b c d) ≡ true → b ≡ false → d ≡ true
+settles-sendable true true c d e n = absurd (false≢true (sym n))
+settles-sendable true false c d e n = e
+settles-sendable false b c d e n = absurd (false≢true e)
+
+-- 1,0,0,0 is not 1,0,1,0
+not-detecting : (bits : ℕ) → immediateReply bits ≡ true → requestDetection bits ≡ false
+unfolding immediateReply requestDetection
+not-detecting bits e = ne-eqb bits 0b1010 (λ i. omega (arith, eqb-true bits 0b1000 e))
+
+replier-settles : (m : List ℕ) (x : Choice) (c : ℕ) → ifReplies m x ≡ Lowest c → (x ≡ Lowest c) × (immediateReply (statusBits (channelAt m c)) ≡ true)
+unfolding ifReplies
+replier-settles m Nothing c e = absurd (let z : _≡_ {A = ℕ} 0 1 = cc in omega arith)
+replier-settles m (Lowest d) c e = go (immediateReply (statusBits (channelAt m d))) refl e
+  where
+    go : (b : Bool) → immediateReply (statusBits (channelAt m d)) ≡ b → pick b (Lowest d) Nothing ≡ Lowest c → (Lowest d ≡ Lowest c) × (immediateReply (statusBits (channelAt m c)) ≡ true)
+    go true i n = let k : d ≡ c = cc in (n, rw (← k) i)
+    go false i n = absurd (let z : _≡_ {A = ℕ} 0 1 = cc in omega arith)
+
+replier-sendable : (m : List ℕ) (longest high low c : ℕ) → settlesReply m longest high low c ≡ true → immediateReply (statusBits (channelAt m c)) ≡ true → sendable (bufferOf m c) longest ≡ true
+unfolding settlesReply
+replier-sendable m longest high low c f i =
+    let n : Bool = not (cher (channelAt m c .status)) in
+    let q : Bool = sendable (bufferOf m c) longest in
+    let g : both (immediateReply (statusBits (channelAt m c))) (both n q) ≡ true = settles-sendable (matches (twelve (channelAt m c .high) (channelAt m c .low)) (twelve (channelAt m c .«mask_high») (channelAt m c .«mask_low»)) (twelve high low)) (requestDetection (statusBits (channelAt m c))) (bufferOf m c .legal) (both (immediateReply (statusBits (channelAt m c))) (both n q)) f (not-detecting (statusBits (channelAt m c)) i) in
+    both-true n q (both-true (immediateReply (statusBits (channelAt m c))) (both n q) g .1) .1
+
+pub fits-reply : (m : List ℕ) (longest high low c : ℕ) → Below 256 m → high < 256 → low < 256 → replierFor m longest high low ≡ Lowest c → Fits longest (replyFrame m c high low)
+unfolding replierFor replyFrame
+fits-reply m longest high low c b h l e =
+    let r : (lowest (settlesReply m longest high low) channels 0 ≡ Lowest c) × (immediateReply (statusBits (channelAt m c)) ≡ true) = replier-settles m (lowest (settlesReply m longest high low) channels 0) c e in
+    let f : settlesReply m longest high low c ≡ true = found (settlesReply m longest high low) channels 0 c (r .0) .0 in
+    fits-with m c high low _ b h l (ready-small m longest c (replier-sendable m longest high low c f (r .1)))
 
 pub setting-small : (m : List ℕ) → Below 256 m → retrySetting (getD m transmitControl 0) ≤ 15
 unfolding retrySetting
@@ -177,6 +217,14 @@ ready-named m longest = lowest-named (ready m longest) channels 0 (omega arith)
 listening-named : (m : List ℕ) (high low : ℕ) → Named (lowestListening m high low)
 unfolding lowestListening
 listening-named m high low = lowest-named (λ c. takes m c high low) channels 0 (omega arith)
+
+pub replier-named : (m : List ℕ) (longest high low : ℕ) → Named (replierFor m longest high low)
+unfolding replierFor
+replier-named m longest high low = go (lowest (settlesReply m longest high low) channels 0) (lowest-named (settlesReply m longest high low) channels 0 (omega arith))
+  where
+    go : (x : Choice) → Named x → Named (ifReplies m x)
+    go Nothing n = unfold ifReplies in nothing
+    go (Lowest c) (channel h) = unfold ifReplies in picked Named (immediateReply (statusBits (channelAt m c))) (Lowest c) Nothing (λ e. channel h) (λ e. nothing)
 
 pub nobody-limits : WinnerLimits nobody
 unfolding nobody

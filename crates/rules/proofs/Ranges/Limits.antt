@@ -14,6 +14,7 @@ use Rattle.rules.specs.declared.Report.{Report}
 use Rattle.rules.specs.declared.Reception.{Reception}
 use Rattle.rules.specs.declared.Effort.{Effort}
 use Rattle.rules.specs.declared.Service.{Service}
+use Rattle.rules.specs.declared.ImmediateReply.{ImmediateReply}
 use Rattle.rules.specs.declared.Core.{Core}
 use Rattle.rules.specs.declared.Controller.{Controller}
 
@@ -49,11 +50,17 @@ pub record ReportLimits (x : Report) : Type 0 where
   pub message : RetriesLimits (x .message)
   pub error : x .error ≤ 32
 
+pub record ReplyLimits (y : ImmediateReply) : Type 0 where
+  pub channel : y .channel ≤ 13
+  pub at : y .at ≤ size capacity - 1
+  pub n : y .frame .n ≤ capacity
+
 pub record Limits (k : Core) : Type 0 where
   pub report : ReportLimits (k .report)
   pub line : k .line .count ≤ 12
   pub reception : ReceptionLimits (k .reception)
   pub service : ServiceLimits (k .service)
+  pub reply : ReplyLimits (k .reply)
 
 -- ---- between events: bytes are bytes, numbers are in range, and error R + 1 has ended its service
 
@@ -86,4 +93,7 @@ limits-in-range k l =
       le-leb _ _ (l .service .effort .setting),
       le-leb _ _ (l .service .effort .at),
       le-leb _ _ (l .service .effort .errors),
+      le-leb _ _ (l .reply .channel),
+      le-leb _ _ (l .reply .at),
+      le-leb _ _ (l .reply .n),
     )

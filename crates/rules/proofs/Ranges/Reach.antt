@@ -13,27 +13,33 @@ use Rattle.line.specs.Bits.{Below}
 use Rattle.line.proofs.Laws.{picked}
 use Rattle.rules.specs.Definitions.Setters.{withActivity, withReport, withService}
 use Rattle.rules.specs.Definitions.Longest.{longestOf}
-use Rattle.rules.specs.Definitions.Registers.{both, command, interruptReset, transmitControl, autonomous, writeOnly, asksIdle, asksActivation, asksRearbitration, resetReport}
-use Rattle.rules.specs.Definitions.Reception.{unsettled}
-use Rattle.rules.specs.Definitions.Service.{roleOf, stopped, choose, aborts, abortAsked, rearAsked}
+use Rattle.rules.specs.Definitions.Registers.{both, command, interruptReset, transmitControl, autonomous, writeOnly, asksIdle, asksActivation, asksRearbitration, resetReport, CV, BOV}
+use Rattle.rules.specs.Definitions.Reception.{unsettled, readsAsked}
+use Rattle.rules.specs.Definitions.Hearing.{hearFrame}
+use Rattle.rules.specs.Definitions.Delivery.{deliveryOf}
+use Rattle.rules.specs.Definitions.Service.{endingOf, goodFor, answeredAs, fulfils, judgeReply, replyTaken, stopped, choose, aborts, abortAsked, rearAsked}
 use Rattle.rules.specs.Definitions.State.{inRange, isActive, isAsleep, serving, inMode, resetCore, idled, idleDue, slept, idleAsked, activated}
-use Rattle.rules.specs.Definitions.Slots.{roleIn, heardAs, heard, delivers, serviceJudged, ending, reportAfter, memoryJudged, coreJudged, chooses, choiceMade, startMade, followsOn, sampleOf, judgedSlot, sampledSlot, activeSlot}
+use Rattle.rules.specs.Definitions.Slots.{roleIn, replyVerdict, heardAs, heard, delivers, verdictAs, verdict, serviceJudged, ending, receptionJudged, reportAfter, memoryJudged, replyAfter, coreJudged, chooses, choiceMade, startMade, followsOn, sampleOf, judgedSlot, sampledSlot, activeSlot}
 use Rattle.rules.specs.Definitions.Host.{resetAll, resets, sleeps, modeCommanded, rearCommanded, keptByte, flagsCleared, coreWritten, serviceAsked, stoppedCore, byteWritten, hostWritten, byteRead, accessRefusals, writeRefusals, readRefusals}
 use Rattle.rules.specs.Definitions.Answers.{number}
 use Rattle.rules.specs.Definitions.Run.{fresh, refuse, accept, unlessRefused, pinReset, hostWrite, hostRead, answered, restedSlot, slot, step, next, after}
-use Rattle.rules.proofs.Ranges.Limits.{RetriesLimits, ReportLimits, Fine, limits-in-range}
+use Rattle.rules.proofs.Ranges.Limits.{ReplyLimits, RetriesLimits, ReportLimits, Fine, limits-in-range}
 use Rattle.rules.proofs.Ranges.Bytes.{set-below, zeros-below, reset-below}
-use Rattle.rules.proofs.Ranges.Reception.{Received, quiet-received, judged-received, line-small, Heard, frame-heard, quiet-heard, heard-report, delivered-report, delivered-below}
+use Rattle.rules.proofs.Ranges.Reception.{Received, quiet-received, judged-received, line-small, Heard, silent, follows, fault, good, frame-heard, quiet-heard, heard-report, delivered-report, delivered-below}
 use Rattle.rules.proofs.Logic.{both-true}
-use Rattle.rules.proofs.Judged.{Tried, tried}
-use Rattle.rules.proofs.Ranges.Service.{Served, resting-served, own-heard, Spent, served-spent, judged-spent, stopped-ends, ending-ends, settled-served, ended-below, sending-report, judged-report, ended-report, choose-served, started-served, abort-served, rear-served}
+use Rattle.rules.proofs.Judged.{slot-judged, Awaited, on, apart, broken, fulfilled, Tried, unjudged, judged, awaited}
+use Rattle.rules.proofs.Ranges.Service.{Served, resting-served, own-heard, slot-heard, Spent, served-spent, judged-spent, Ends, fulfilment, stopped-ends, ending-ends, settled-served, ended-below, replied-below, sending-report, judged-report, ended-report, replied-report, none-replies, replied-limits, taken-limits, choose-served, started-served, abort-served, rear-served}
 use Rattle.rules.proofs.Steps.{Call, refused, taken, call-of}
 use Rattle.rules.specs.declared.Report.{Report}
 use Rattle.rules.specs.declared.Service.{Service}
 use Rattle.rules.specs.declared.Hearing.{Hearing}
+use Rattle.rules.specs.declared.Reception.{Reception}
+use Rattle.rules.specs.declared.Delivery.{Delivery}
+use Rattle.rules.specs.declared.Delivery.the-variants as delivery
+use Rattle.rules.specs.declared.Ending.the-variants.{Fulfilled}
 use Rattle.rules.specs.declared.Verdict.{Verdict}
 use Rattle.rules.specs.declared.Role.{Role}
-use Rattle.rules.specs.declared.Role.the-variants.{Nobody, Receiver, Sender}
+use Rattle.rules.specs.declared.Role.the-variants.{Nobody, Receiver, Sender, Asker, Replier}
 use Rattle.rules.specs.declared.Mode.the-variants.{Active}
 use Rattle.rules.specs.declared.Activity.{Activity}
 use Rattle.rules.specs.declared.Core.{Core}
@@ -51,13 +57,14 @@ pub record FineCore (k : Core) : Type 0 where
   pub line : k .line .count ≤ 12
   pub reception : Received (k .reception)
   pub service : Served (k .service)
+  pub reply : ReplyLimits (k .reply)
 
 pub core-fine : (c : Controller) → Below 256 (c .memory) → FineCore (c .core) → Fine c
 core-fine c b f =
     record {
       memory = b;
       received = f .reception .bytes;
-      limits = record { report = f .report; line = f .line; reception = f .reception .limits; service = f .service .limits };
+      limits = record { report = f .report; line = f .line; reception = f .reception .limits; service = f .service .limits; reply = f .reply };
       retries = f .service .retries;
     }
 
@@ -69,6 +76,7 @@ fine-core c f =
       line = l .line;
       reception = record { limits = l .reception; bytes = f .received };
       service = record { limits = l .service; retries = f .retries };
+      reply = l .reply;
     }
 
 -- ---- a sample, with its effects
@@ -78,51 +86,97 @@ unfolding heardAs
 as-heard Nobody k v j = quiet-heard (k .line) v
 as-heard Receiver k v j = frame-heard (k .reception) (longestOf k) v
 as-heard Sender k v j = own-heard j
+as-heard Asker k v j = frame-heard (k .reception) (longestOf k) v
+as-heard Replier k v j = unfold judgeReply in slot-heard (slot-judged (k .reply .frame) (k .reply .at) v)
 
 is-heard : (k : Core) {w : Verdict} (v : ℕ) → Tried (k .service .effort) v w → Heard (heard k w v)
 unfolding heard
-is-heard k v j = as-heard (roleOf (k .service .effort .progress) (k .reception .place)) k v j
+is-heard k v j = as-heard (roleIn k) k v j
 
-after-report : (k : Core) (w : Verdict) {h : Hearing} {v : ℕ} → FineCore k → Tried (k .service .effort) v w → Heard h → ReportLimits (reportAfter k w h)
+-- what a sample is for an attempt that is answered
+good-awaited : (d : Delivery) → Awaited (goodFor d)
+unfolding goodFor
+good-awaited delivery.Nothing = broken CV (omega arith)
+good-awaited delivery.Stored = fulfilled
+good-awaited delivery.Overflowed = broken BOV (omega arith)
+good-awaited delivery.Spoiled = broken CV (omega arith)
+
+answered-awaited : {h : Hearing} → Heard h → (d : Delivery) → Awaited (answeredAs h d)
+unfolding answeredAs
+answered-awaited silent d = on
+answered-awaited follows d = on
+answered-awaited (fault code h) d = broken code h
+answered-awaited good d = good-awaited d
+
+verdict-as : (x : Role) (k : Core) (v : ℕ) → Tried (k .service .effort) v (verdictAs x k v)
+unfolding verdictAs
+verdict-as Nobody k v = unjudged
+verdict-as Receiver k v = unjudged
+verdict-as Sender k v = judged (slot-judged (k .service .effort .frame) (k .service .effort .progress .at) v)
+verdict-as Asker k v = awaited (answered-awaited (frame-heard (k .reception) (longestOf k) v) (deliveryOf (hearFrame (k .reception) (longestOf k) v) (k .reception)))
+verdict-as Replier k v = unjudged
+
+pub verdict-tried : (k : Core) (v : ℕ) → Tried (k .service .effort) v (verdict k v)
+unfolding verdict
+verdict-tried k v = verdict-as (roleIn k) k v
+
+ends-so : (k : Core) (w : Verdict) (h : Hearing) → Spent (serviceJudged w (k .service)) → Ends (serviceJudged w (k .service)) (ending k w h)
+unfolding ending
+ends-so k w h s =
+    picked (Ends (serviceJudged w (k .service))) (fulfils (delivers (roleIn k) h (k .reception)) (k .reception) (k .service)) Fulfilled (endingOf w (serviceJudged w (k .service)))
+    (λ e. fulfilment) (λ e. ending-ends w (serviceJudged w (k .service)) s)
+
+after-report : (k : Core) (w q : Verdict) {h : Hearing} {v : ℕ} → FineCore k → Tried (k .service .effort) v w → Heard h → ReportLimits (reportAfter k w q h)
 unfolding reportAfter
-after-report k w {h} f j i =
+after-report k w q {h} f j i =
     let s : Spent (serviceJudged w (k .service)) = judged-spent (k .service) j (f .service) in
-    ended-report (ending k w) _ (serviceJudged w (k .service))
-    (judged-report w _ (serviceJudged w (k .service))
+    replied-report q _ (k .reply .channel)
+    (ended-report (ending k w h) _ (serviceJudged w (k .service))
+    (judged-report j _ (serviceJudged w (k .service))
     (delivered-report (delivers (roleIn k) h (k .reception)) _ (k .reception) (heard-report i (k .report) (f .report)) (f .reception)) s)
-    s
+    s)
+    (f .reply .channel)
 
-judged-below : {m : List ℕ} → Below 256 m → (k : Core) (w : Verdict) (h : Hearing) → FineCore k → Below 256 (memoryJudged m k w h)
+judged-below : {m : List ℕ} → Below 256 m → (k : Core) (w q : Verdict) (h : Hearing) → FineCore k → Below 256 (memoryJudged m k w q h)
 unfolding memoryJudged
-judged-below b k w h f =
-    ended-below (ending k w) (delivered-below (delivers (roleIn k) h (k .reception)) b (k .reception) (f .reception)) (k .service .channel)
+judged-below b k w q h f =
+    replied-below q (ended-below (ending k w h) (delivered-below (delivers (roleIn k) h (k .reception)) b (k .reception) (f .reception)) (k .service .channel)) (k .reply .channel)
+
+reply-kept : (x : Role) (m : List ℕ) (k : Core) (v : ℕ) (r : Reception) → ReplyLimits (k .reply) → ReplyLimits (replyAfter x m k (replyVerdict x k v) r)
+unfolding replyAfter replyVerdict
+reply-kept Nobody m k v r l = l
+reply-kept Receiver m k v r l = picked ReplyLimits (readsAsked r) (replyTaken m (longestOf k) r) (k .reply) (λ e. taken-limits m (longestOf k) r) (λ e. l)
+reply-kept Sender m k v r l = l
+reply-kept Asker m k v r l = l
+reply-kept Replier m k v r l = replied-limits (k .reply) v l
 
 judged-kept : {m : List ℕ} → Below 256 m → (k : Core) (w : Verdict) {h : Hearing} (v : ℕ) → FineCore k → Tried (k .service .effort) v w → Heard h
-    → FineCore (coreJudged m k w h v)
-unfolding coreJudged ending
-judged-kept b k w {h} v f j i =
+    → FineCore (coreJudged m k w (replyVerdict (roleIn k) k v) h v)
+unfolding coreJudged
+judged-kept {m} b k w {h} v f j i =
     let s : Spent (serviceJudged w (k .service)) = judged-spent (k .service) j (f .service) in
     record {
-      report = after-report k w f j i;
+      report = after-report k w (replyVerdict (roleIn k) k v) f j i;
       line = line-small h (k .line) v (f .line);
       reception = judged-received b h (k .reception) v (f .reception);
-      service = settled-served (serviceJudged w (k .service)) s (ending-ends w (serviceJudged w (k .service)) s);
+      service = settled-served (serviceJudged w (k .service)) s (ends-so k w h s);
+      reply = reply-kept (roleIn k) m k v (receptionJudged m h (k .reception) v) (f .reply);
     }
 
 -- ---- what follows: idle, choice, start
 
 report-kept : (k : Core) (x : Report) → FineCore k → ReportLimits x → FineCore (withReport k x)
-report-kept k x f l = record { report = l; line = f .line; reception = f .reception; service = f .service }
+report-kept k x f l = record { report = l; line = f .line; reception = f .reception; service = f .service; reply = f .reply }
 
 service-kept : (k : Core) (s : Service) → FineCore k → Served s → FineCore (withService k s)
-service-kept k s f g = record { report = f .report; line = f .line; reception = f .reception; service = g }
+service-kept k s f g = record { report = f .report; line = f .line; reception = f .reception; service = g; reply = f .reply }
 
 activity-kept : (k : Core) (a : Activity) → FineCore k → FineCore (withActivity k a)
-activity-kept k a f = record { report = f .report; line = f .line; reception = f .reception; service = f .service }
+activity-kept k a f = record { report = f .report; line = f .line; reception = f .reception; service = f .service; reply = f .reply }
 
 idled-kept : (k : Core) → FineCore k → FineCore (idled k)
 unfolding idled
-idled-kept k f = record { report = f .report; line = f .line; reception = quiet-received; service = f .service }
+idled-kept k f = record { report = f .report; line = f .line; reception = quiet-received; service = f .service; reply = none-replies }
 
 idle-kept : (k : Core) → FineCore k → FineCore (idleDue k)
 unfolding idleDue
@@ -149,16 +203,16 @@ follows-kept {m} b k f = start-kept m _ (choice-kept b _ (idle-kept k f))
 
 -- ---- the slot
 
-judged-fine : (c : Controller) (w : Verdict) {h : Hearing} (v : ℕ) → Fine c → Tried (c .core .service .effort) v w → Heard h → Fine (judgedSlot c w h v)
+judged-fine : (c : Controller) (w : Verdict) {h : Hearing} (v : ℕ) → Fine c → Tried (c .core .service .effort) v w → Heard h → Fine (judgedSlot c w (replyVerdict (roleIn (c .core)) (c .core) v) h v)
 unfolding judgedSlot
 judged-fine c w {h} v f j i =
     let k = fine-core c f in
-    let b = judged-below (f .memory) (c .core) w h k in
+    let b = judged-below (f .memory) (c .core) w (replyVerdict (roleIn (c .core)) (c .core) v) h k in
     core-fine _ b (follows-kept b _ (judged-kept b (c .core) w v k j i))
 
 sampled-fine : (c : Controller) (v : ℕ) → Fine c → Fine (sampledSlot c v)
 unfolding sampledSlot
-sampled-fine c v f = let j = tried (c .core .service .effort) v in judged-fine c _ v f j (is-heard (c .core) v j)
+sampled-fine c v f = let j = verdict-tried (c .core) v in judged-fine c _ v f j (is-heard (c .core) v j)
 
 active-fine : (c : Controller) (levels : ℕ) → Fine c → Fine (activeSlot c levels)
 unfolding activeSlot
@@ -170,7 +224,7 @@ reset-kept : FineCore resetCore
 unfolding resetCore resetReport unsettled
 reset-kept =
     let r : RetriesLimits (record { count = 0; channel = 0 }) = record { count = omega arith; channel = omega arith } in
-    record { report = record { sending = r; message = r; error = omega arith }; line = omega arith; reception = quiet-received; service = resting-served }
+    record { report = record { sending = r; message = r; error = omega arith }; line = omega arith; reception = quiet-received; service = resting-served; reply = none-replies }
 
 reset-fine : (c : Controller) → Below 256 (c .memory) → Fine (resetAll c)
 unfolding resetAll
@@ -182,7 +236,7 @@ activated-kept : (k : Core) → FineCore k → FineCore (activated k)
 unfolding activated unsettled
 activated-kept k f =
     picked FineCore (isActive (k .activity .mode)) (withActivity k (inMode Active false)) _ (λ e. activity-kept k (inMode Active false) f)
-    (λ e. record { report = f .report; line = omega arith; reception = f .reception; service = f .service })
+    (λ e. record { report = f .report; line = omega arith; reception = f .reception; service = f .service; reply = f .reply })
 
 idle-asked-kept : (k : Core) → FineCore k → FineCore (idleAsked k)
 unfolding idleAsked
@@ -219,7 +273,7 @@ stopped-kept k s f g =
 
 slept-kept : (k : Core) → FineCore k → FineCore (slept k)
 unfolding slept
-slept-kept k f = record { report = f .report; line = f .line; reception = quiet-received; service = resting-served }
+slept-kept k f = record { report = f .report; line = f .line; reception = quiet-received; service = resting-served; reply = none-replies }
 
 kept-below : {m : List ℕ} → Below 256 m → (address v : ℕ) → v < 256 → Below 256 (keptByte m address v)
 unfolding keptByte

@@ -8,6 +8,7 @@ use mathlib.Core.Path.{_≡_, sym}
 use native.Mathlib.Omega.{arith}
 use borrow.Author.Tests.{ltb-true, ltb-false}
 use lib.Dec.{eqb, ltb}
+use lib.ListN.{getD}
 use Rattle.line.specs.Bits.{Below}
 use Rattle.line.specs.Frame.{size}
 use Rattle.line.proofs.Laws.{picked}
@@ -16,27 +17,31 @@ use Rattle.line.specs.declared.Part.{Part}
 use Rattle.line.specs.declared.Part.the-variants.{Start, Identifier, Command, Data, Check, EndOfData, Acknowledge, EndOfFrame, After}
 use Rattle.line.specs.declared.Half.{Half}
 use Rattle.line.specs.declared.Half.the-variants.{Plain, First, Second}
+use Rattle.rules.specs.Definitions.Setters.{withError}
 use Rattle.rules.specs.Definitions.Longest.{capacity}
 use Rattle.rules.specs.Definitions.Registers.{both, CV, ACKE, FCSE}
-use Rattle.rules.specs.Definitions.Mailbox.{coded}
-use Rattle.rules.specs.Definitions.Reception.{free, underWay, startEnded}
+use Rattle.rules.specs.Definitions.Channels.{bufferOf}
+use Rattle.rules.specs.Definitions.Mailbox.{dataIn, frameWith, replyFrame, coded}
+use Rattle.rules.specs.Definitions.Reception.{free, underWay, startEnded, replyLow}
 use Rattle.rules.specs.Definitions.Attempt.{noCounts, atStage, isBetween, betweenAttempts, waits, drivesFrame, levelAt, due, judgeSlot, judge, slotSpent, lostSpent, errorSpent, advance, exhausted}
-use Rattle.rules.specs.Definitions.Service.{resting, stopped, endingOf, settled, memoryEnded, retriesOf, reportSending, reportJudged, reportEnded, chosen, choiceOf, choose, opened, started, abortAsked, rearAsked, hearOwn}
-use Rattle.rules.proofs.Judged.{went, lost, broke, done, Tried, unjudged, judged}
-use Rattle.rules.proofs.Ranges.Limits.{ServiceLimits, RetriesLimits, ReportLimits}
-use Rattle.rules.proofs.Ranges.Bytes.{fits-sent, setting-small, cher-below, chtx-below, Named, nothing, channel, ready-named}
+use Rattle.rules.specs.Definitions.Service.{resting, stopped, endingOf, settled, memoryEnded, retriesOf, reportSending, reportJudged, reportEnded, noReply, judgeReply, replyMoved, replied, memoryReplied, reportReplied, replyBy, replyTaken, chosen, choiceOf, choose, opened, started, abortAsked, rearAsked, hearOwn}
+use Rattle.rules.proofs.Judged.{Judged, went, lost, broke, done, answered, slot-judged, Awaited, on, apart, broken, fulfilled, Tried, unjudged, judged, awaited}
+use Rattle.rules.proofs.Ranges.Limits.{ReplyLimits, ServiceLimits, RetriesLimits, ReportLimits}
+use Rattle.rules.proofs.Ranges.Bytes.{data-small, mailbox-length, fits-sent, setting-small, cher-below, chtx-below, chrx-below, Named, nothing, channel, ready-named, replier-named}
 use Rattle.rules.proofs.Ranges.Reception.{Heard, silent, follows, fault, good}
 use Rattle.rules.specs.Definitions.Slots.{serviceJudged}
 use Rattle.rules.specs.declared.Report.{Report}
 use Rattle.rules.specs.declared.Choice.{Choice}
 use Rattle.rules.specs.declared.Line.{Line}
 use Rattle.rules.specs.declared.Reception.{Reception}
+use Rattle.rules.specs.declared.Coded.{Coded}
 use Rattle.rules.specs.declared.Effort.{Effort}
 use Rattle.rules.specs.declared.Service.{Service}
+use Rattle.rules.specs.declared.ImmediateReply.{ImmediateReply}
 use Rattle.rules.specs.declared.Verdict.{Verdict}
-use Rattle.rules.specs.declared.Verdict.the-variants.{Unjudged, Goes, Lost, Failed, Done}
+use Rattle.rules.specs.declared.Verdict.the-variants.{Unjudged, Goes, Lost, Failed, Done, Answered}
 use Rattle.rules.specs.declared.Ending.{Ending}
-use Rattle.rules.specs.declared.Ending.the-variants.{Going, Sent, Exhausted, Aborted, Rearbitrated}
+use Rattle.rules.specs.declared.Ending.the-variants.{Going, Sent, Exhausted, Aborted, Rearbitrated, Fulfilled}
 
 pub record Served (s : Service) : Type 0 where
   pub limits : ServiceLimits s
@@ -51,13 +56,22 @@ resting-served =
     }
 
 -- the model's own frame, for the line
+pub slot-heard : {x : Coded} {k v : ℕ} {w : Verdict} → Judged x k v w → Heard (hearOwn w)
+unfolding hearOwn
+slot-heard (went e h) = follows
+slot-heard (lost a b i) = follows
+slot-heard (broke code h) = fault code h
+slot-heard done = good
+slot-heard (answered a b c) = follows
+
 pub own-heard : {e : Effort} {v : ℕ} {w : Verdict} → Tried e v w → Heard (hearOwn w)
 unfolding hearOwn
 own-heard unjudged = silent
-own-heard (judged (went e h)) = follows
-own-heard (judged (lost a b i)) = follows
-own-heard (judged (broke code h)) = fault code h
-own-heard (judged done) = good
+own-heard (judged j) = slot-heard j
+own-heard (awaited on) = follows
+own-heard (awaited apart) = silent
+own-heard (awaited (broken code h)) = fault code h
+own-heard (awaited fulfilled) = good
 
 -- ---- the slot is spent: more errors than R stand only between attempts, where they end the service
 
@@ -88,6 +102,19 @@ judged-spent s (judged (broke code h)) f =
 judged-spent s (judged done) f =
     let l = f .limits in
     record { channel = l .channel; n = l .effort .n; at = omega arith; setting = l .effort .setting; over = λ e. f .retries }
+judged-spent s (judged (answered a b c)) f =
+    let l = f .limits in
+    record { channel = l .channel; n = l .effort .n; at = omega arith; setting = l .effort .setting; over = λ e. f .retries }
+judged-spent s (awaited on) f =
+    let l = f .limits in
+    record { channel = l .channel; n = l .effort .n; at = omega arith; setting = l .effort .setting; over = λ e. f .retries }
+judged-spent s (awaited apart) f = served-spent s f
+judged-spent s (awaited (broken code h)) f =
+    let l = f .limits in
+    record { channel = l .channel; n = l .effort .n; at = omega arith; setting = l .effort .setting; over = λ e. absurd (false≢true (sym e)) }
+judged-spent s (awaited fulfilled) f =
+    let l = f .limits in
+    record { channel = l .channel; n = l .effort .n; at = omega arith; setting = l .effort .setting; over = λ e. f .retries }
 
 -- ---- the end of a service
 
@@ -97,6 +124,7 @@ pub data Ends (s : Service) : Ending → Type 0 where
   exhaustion : Ends s Exhausted
   aborted : Ends s Aborted
   rearbitrated : Ends s Rearbitrated
+  fulfilment : Ends s Fulfilled
 
 pub stopped-ends : (s : Service) → Spent s → Ends s (stopped s)
 unfolding stopped exhausted
@@ -114,6 +142,7 @@ ending-ends Goes s f = stopped-ends s f
 ending-ends Lost s f = stopped-ends s f
 ending-ends (Failed code) s f = stopped-ends s f
 ending-ends Done s f = sent
+ending-ends Answered s f = stopped-ends s f
 
 pub settled-served : (s : Service) {x : Ending} → Spent s → Ends s x → Served (settled x s)
 unfolding settled
@@ -126,6 +155,7 @@ settled-served s f sent = resting-served
 settled-served s f exhaustion = resting-served
 settled-served s f aborted = resting-served
 settled-served s f rearbitrated = resting-served
+settled-served s f fulfilment = resting-served
 
 -- ---- the memory map and the registers
 
@@ -136,6 +166,16 @@ ended-below Sent b c = chtx-below b c
 ended-below Exhausted b c = chtx-below (cher-below b c) c
 ended-below Aborted b c = chtx-below b c
 ended-below Rearbitrated b c = b
+ended-below Fulfilled b c = b
+
+pub replied-below : (q : Verdict) {m : List ℕ} → Below 256 m → (c : ℕ) → Below 256 (memoryReplied q m c)
+unfolding memoryReplied
+replied-below Unjudged b c = b
+replied-below Goes b c = b
+replied-below Lost b c = b
+replied-below (Failed code) b c = cher-below b c
+replied-below Done b c = chrx-below (chtx-below b c) c
+replied-below Answered b c = b
 
 retries-limits : (s : Service) → Spent s → RetriesLimits (retriesOf s)
 unfolding retriesOf
@@ -151,13 +191,18 @@ pub sending-report : (x : Report) (s : Service) → ReportLimits x → Spent s �
 unfolding reportSending
 sending-report x s l f = record { sending = retries-limits s f; message = l .message; error = l .error }
 
-pub judged-report : (w : Verdict) (x : Report) (s : Service) → ReportLimits x → Spent s → ReportLimits (reportJudged w x s)
+pub judged-report : {e : Effort} {v : ℕ} {w : Verdict} → Tried e v w → (x : Report) (s : Service) → ReportLimits x → Spent s → ReportLimits (reportJudged w x s)
 unfolding reportJudged
-judged-report Unjudged x s l f = l
-judged-report Goes x s l f = l
-judged-report Lost x s l f = l
-judged-report (Failed code) x s l f = sending-report x s l f
-judged-report Done x s l f = l
+judged-report unjudged x s l f = l
+judged-report (judged (went a b)) x s l f = l
+judged-report (judged (lost a b c)) x s l f = l
+judged-report (judged (broke code h)) x s l f = sending-report (withError x code) s (record { sending = l .sending; message = l .message; error = h }) f
+judged-report (judged done) x s l f = l
+judged-report (judged (answered a b c)) x s l f = l
+judged-report (awaited on) x s l f = l
+judged-report (awaited apart) x s l f = l
+judged-report (awaited (broken code h)) x s l f = sending-report (withError x code) s (record { sending = l .sending; message = l .message; error = h }) f
+judged-report (awaited fulfilled) x s l f = l
 
 pub ended-report : (y : Ending) (x : Report) (s : Service) → ReportLimits x → Spent s → ReportLimits (reportEnded y x s)
 unfolding reportEnded
@@ -166,6 +211,43 @@ ended-report Sent x s l f = record { sending = l .sending; message = retries-lim
 ended-report Exhausted x s l f = record { sending = l .sending; message = retries-limits s f; error = l .error }
 ended-report Aborted x s l f = l
 ended-report Rearbitrated x s l f = l
+ended-report Fulfilled x s l f = l
+
+pub replied-report : (q : Verdict) (x : Report) (c : ℕ) → ReportLimits x → c ≤ 13 → ReportLimits (reportReplied q x c)
+unfolding reportReplied
+replied-report Unjudged x c l h = l
+replied-report Goes x c l h = l
+replied-report Lost x c l h = l
+replied-report (Failed code) x c l h = record { sending = l .sending; message = l .message; error = l .error }
+replied-report Done x c l h = record { sending = l .sending; message = record { count = omega arith; channel = h }; error = l .error }
+replied-report Answered x c l h = l
+
+-- ---- the immediate reply
+
+pub none-replies : ReplyLimits noReply
+unfolding noReply resting
+none-replies = record { channel = omega arith; at = omega arith; n = omega arith }
+
+pub replied-limits : (y : ImmediateReply) (v : ℕ) → ReplyLimits y → ReplyLimits (replied (judgeReply y v) y)
+unfolding judgeReply replied
+replied-limits y v l = go (slot-judged (y .frame) (y .at) v)
+  where
+    go : {w : Verdict} → Judged (y .frame) (y .at) v w → ReplyLimits (replied w y)
+    go (went a b) = unfold replyMoved in record { channel = l .channel; at = unfold size in omega (arith, l .n); n = l .n }
+    go (lost a b c) = none-replies
+    go (broke code h) = none-replies
+    go done = none-replies
+    go (answered a b c) = none-replies
+
+pub taken-limits : (m : List ℕ) (longest : ℕ) (r : Reception) → ReplyLimits (replyTaken m longest r)
+unfolding replyTaken replyBy
+taken-limits m longest r = go (replier-named m longest (getD (r .bytes) 0 0) (replyLow r))
+  where
+    go : {x : Choice} → Named x → ReplyLimits (replyBy m (getD (r .bytes) 0 0) (replyLow r) x)
+    go nothing = none-replies
+    go (channel {c = c} h) =
+        let long = mailbox-length m (bufferOf m c .pointer) 1 (dataIn (bufferOf m c .length)) in
+        record { channel = h; at = unfold size in omega arith; n = unfold coded replyFrame frameWith in omega (arith, data-small (bufferOf m c .length)) }
 
 -- ---- choice and start
 

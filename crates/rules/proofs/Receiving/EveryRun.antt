@@ -14,7 +14,7 @@ use Rattle.line.specs.Frame.{Frame, Fits, slots, size}
 use Rattle.line.proofs.Laws.{bits-length, code-length, slots-length, picked}
 use Rattle.rules.specs.Definitions.Setters.{withReport, withService}
 use Rattle.rules.specs.Definitions.Channels.{base}
-use Rattle.rules.specs.Definitions.Mailbox.{stored, markedCher, markedChtx}
+use Rattle.rules.specs.Definitions.Mailbox.{stored, markedCher, markedChtx, markedChrx}
 use Rattle.rules.specs.Definitions.Reception.{atPlace, isUnderWay, takesStart, underWay, commandEnded, begun, moved, entered, bitTaken, bitsLaid, dataEnded, nibbleTaken, followStart, followBody, followIn, followed, winnerTaken, followAcknowledge, followEnd}
 use Rattle.rules.specs.Definitions.Hearing.{receptionAfter, hearFrame, hearQuiet, acknowledges, acknowledgeLevel, receiverIn, receiverLevel, fits}
 use Rattle.rules.specs.Statements.Valid.{high, low, owes, Valid}
@@ -22,13 +22,13 @@ use Rattle.rules.proofs.Receiving.Invariant.{InBody, InAcknowledge, Inv
 use Rattle.rules.proofs.Receiving.InvariantFrames.{start-long, acknowledge-long, end-long, closing, closing-length, body-opens, acknowledge-same, end-same}
 use Rattle.rules.proofs.Receiving.InvariantLaws.{invariant-silent, invariant-header, invariant-good, invariant-last, invariant-fault, invariant-acknowledges}
 use Rattle.rules.specs.Definitions.Delivery.{deliveryTo, delivered, deliveryOf, memoryStored, memoryDelivered, reportHeard, reportDelivered, reportStored, receiveError}
-use Rattle.rules.specs.Definitions.Attempt.{drivesFrame, judge, advance}
-use Rattle.rules.specs.Definitions.Service.{stopped, endingOf, memoryEnded, reportJudged, reportEnded, reportSending, choose}
+use Rattle.rules.specs.Definitions.Attempt.{drivesFrame, advance, isAnswered}
+use Rattle.rules.specs.Definitions.Service.{stopped, endingOf, memoryEnded, reportJudged, reportEnded, reportSending, choose, goodFor, answeredAs, fulfils, memoryReplied, reportReplied}
 use Rattle.rules.specs.Definitions.State.{isActive, inMode, serving, resetCore, idled, idleDue}
 use Rattle.rules.specs.Definitions.Longest.{longestOf}
-use Rattle.rules.specs.Definitions.Registers.{BOV}
+use Rattle.rules.specs.Definitions.Registers.{BOV, CV}
 use Rattle.rules.specs.declared.Report.{Report}
-use Rattle.rules.specs.Definitions.Slots.{roleIn, heardAs, heard, serviceJudged, receptionJudged, delivers, ending, reportAfter, memoryJudged, coreJudged, chooses, choiceMade, startMade, followsOn, drivesAs, drives, sampleOf, judgedSlot, sampledSlot, activeSlot}
+use Rattle.rules.specs.Definitions.Slots.{roleIn, heardAs, heard, serviceJudged, receptionJudged, delivers, ending, reportAfter, memoryJudged, coreJudged, chooses, choiceMade, startMade, followsOn, drivesAs, drives, sampleOf, judgedSlot, sampledSlot, activeSlot, replyVerdict, verdictAs, verdict}
 use Rattle.rules.specs.Definitions.Host.{resetAll}
 use Rattle.rules.specs.Definitions.Run.{fresh, answered, next}
 use Rattle.rules.specs.Statements.Tally.{Tally, none}
@@ -41,11 +41,15 @@ use Rattle.rules.proofs.Ranges.Limits.{Fine}
 use Rattle.rules.proofs.Ranges.Reach.{fine-fresh, fine-next}
 use Rattle.rules.proofs.Sending.Bound.{good-none}
 use Rattle.rules.proofs.Sending.Demand3.{Joined, joined-next, joined-fresh}
-use Rattle.rules.specs.Statements.Receiving.{Log, noLog, storedFrame, received, errorAfter, logNext, taker, hears, Taken, Delivers, role, Heeds, DeliversIn, Owing, Acknowledges, ReceivingOver}
-use Rattle.rules.proofs.Roles.{receiver-is, judge-apart, heard-receiver}
+use Rattle.rules.specs.Statements.Receiving.{Log, noLog, storedFrame, received, errorAfter, logNext, taker, hears, Taken, Delivers, role, Heeds, DeliversIn, Owing, Acknowledges, ReceivingOver, receives, untaken}
+use Rattle.rules.specs.Statements.Interrupts.{ownFrame}
+use Rattle.rules.proofs.Roles as roles
+use Rattle.rules.proofs.Roles.{RoleIs, sends, asks, rests, role-is}
 use Rattle.rules.proofs.Receiving.Log.{At, Following, apart, driving, none-wins, receiving, starting}
 use Rattle.rules.proofs.Receiving.Log as at
-use Rattle.rules.proofs.Receiving.LogSteps.{Logs, apart-stands, next-logs, sample-small}
+use Rattle.rules.proofs.Receiving.LogSteps.{Logs}
+use Rattle.rules.proofs.Receiving.Answers.{is-asking, Kept, kept-fresh, kept-next, coming}
+use Rattle.rules.proofs.Samples.{sample-small}
 use Rattle.rules.specs.declared.Winner.{Winner}
 use Rattle.rules.specs.declared.Phase.{Phase}
 use Rattle.rules.specs.declared.Phase.the-variants.{Quiet, Start, Body, Acknowledge, End}
@@ -55,12 +59,14 @@ use Rattle.rules.specs.declared.Hearing.the-variants as hearing
 use Rattle.rules.specs.declared.Delivery.{Delivery}
 use Rattle.rules.specs.declared.Delivery.the-variants as effect
 use Rattle.rules.specs.declared.Effort.{Effort}
+use Rattle.rules.specs.declared.ImmediateReply.{ImmediateReply}
+use Rattle.rules.specs.declared.Service.{Service}
 use Rattle.rules.specs.declared.Verdict.{Verdict}
-use Rattle.rules.specs.declared.Verdict.the-variants.{Unjudged}
+use Rattle.rules.specs.declared.Verdict.the-variants.{Unjudged, Goes, Lost, Failed, Done, Answered}
 use Rattle.rules.specs.declared.Ending.{Ending}
-use Rattle.rules.specs.declared.Ending.the-variants.{Going, Sent, Exhausted, Aborted, Rearbitrated}
+use Rattle.rules.specs.declared.Ending.the-variants.{Going, Sent, Exhausted, Aborted, Rearbitrated, Fulfilled}
 use Rattle.rules.specs.declared.Role.{Role}
-use Rattle.rules.specs.declared.Role.the-variants.{Nobody, Receiver, Sender}
+use Rattle.rules.specs.declared.Role.the-variants.{Nobody, Receiver, Sender, Asker, Replier}
 use Rattle.rules.specs.declared.Activity.{Activity}
 use Rattle.rules.specs.declared.Core.{Core}
 use Rattle.rules.specs.declared.Controller.{Controller}
@@ -69,12 +75,26 @@ use Rattle.rules.specs.declared.Event.the-variants.{Reset, Write, Read, 
 
 -- ---- another module's frame
 
-following-at : {longest : ℕ} {e : Effort} {r : Reception} {l : Log} → At longest e r l → drivesFrame (e .progress) ≡ false → underWay (r .place) ≡ true → Following longest r l
-following-at (apart d u) a b = absurd (false≢true (sym u ∙ b))
-following-at (receiving d f) a b = f
-following-at (starting d z u) a b = absurd (false≢true (sym a ∙ d))
-following-at (driving d f p h) a b = f
-following-at (at.closing d n h) a b = absurd (false≢true (sym a ∙ d))
+following-at : {longest : ℕ} {e : Effort} {y : ImmediateReply} {r : Reception} {l : Log} → At longest e y r l
+    → drivesFrame (e .progress) ≡ false → isAnswered (e .progress) ≡ false → y .going ≡ false → underWay (r .place) ≡ true → Following longest r l
+following-at (apart d g u) a i n b = absurd (false≢true (sym u ∙ b))
+following-at (receiving d g f) a i n b = f
+following-at (at.asking d k g f) a i n b = f
+following-at (starting d g z u) a i n b = absurd (false≢true (sym a ∙ d))
+following-at (driving d g f p h) a i n b = f
+following-at (at.closing d g k h) a i n b = absurd (false≢true (sym a ∙ d))
+following-at (at.replying d g o f p k h) a i n b = f
+following-at (at.replied d g k h) a i n b = absurd (false≢true (sym n ∙ g))
+
+receives-follows : (k : Core) (l : Log) → At (longestOf k) (k .service .effort) (k .reply) (k .reception) l → receives (roleIn k) ≡ true → Following (longestOf k) (k .reception) l
+receives-follows k l s h = go (role-is (k .service .effort .progress) (k .reply .going) (k .reception .place)) h
+  where
+    go : {x : Role} → RoleIs (k .service .effort .progress) (k .reply .going) (k .reception .place) x → receives x ≡ true → Following (longestOf k) (k .reception) l
+    go (sends d) h = absurd (false≢true (unfold receives in h))
+    go (asks d a) h = is-asking s a
+    go (roles.replying d a y) h = absurd (false≢true (unfold receives in h))
+    go (roles.receives d a y u) h = following-at s d a y u
+    go (rests d a y u) h = absurd (false≢true (unfold receives in h))
 
 module _ {longest : ℕ} (r : Reception) (l : Log) (w : Following longest r l) where
   taker-is : (f : Frame) → getD (r .bytes) 0 0 ≡ high f → getD (r .bytes) 1 0 ≡ low f → r .winner ≡ taker l f
@@ -90,9 +110,13 @@ module _ {longest : ℕ} (r : Reception) (l : Log) (w : Following longest r l) w
 
 -- ---- the memory map
 
-unjudged-memory : (m : List ℕ) (k : Core) (h : Hearing) → roleIn k ≡ Receiver → stopped (k .service) ≡ Going → memoryJudged m k Unjudged h ≡ memoryDelivered (deliveryOf h (k .reception)) m (k .reception)
-unfolding memoryJudged ending endingOf serviceJudged advance delivers
-unjudged-memory m k h q g = rw (q, g) (unfold memoryEnded in refl)
+receiver-memory : (m : List ℕ) (k : Core) (h : Hearing) → roleIn k ≡ Receiver → stopped (k .service) ≡ Going → memoryJudged m k Unjudged Unjudged h ≡ memoryDelivered (deliveryOf h (k .reception)) m (k .reception)
+unfolding memoryJudged memoryReplied ending endingOf serviceJudged advance delivers
+receiver-memory m k h q g = rw (q, g) (go (fulfils (deliveryOf h (k .reception)) (k .reception) (k .service)))
+  where
+    go : (b : Bool) → memoryEnded (pick b Fulfilled Going) (memoryDelivered (deliveryOf h (k .reception)) m (k .reception)) (k .service .channel) ≡ memoryDelivered (deliveryOf h (k .reception)) m (k .reception)
+    go true = unfold memoryEnded in refl
+    go false = unfold memoryEnded in refl
 
 -- what a good frame does to it
 good-memory : {longest : ℕ} (m : List ℕ) (r : Reception) {s : List ℕ} (w : Whole longest r s) → memoryDelivered (deliveryOf hearing.Good r) m r ≡ received m (r .winner) (w .frame)
@@ -106,7 +130,7 @@ good-memory m r w = rw (w .count-is) (go (r .winner .matched) (leb (length (w .f
     go false b = unfold memoryDelivered in refl
 
 -- what it does to 0x07
-good-error : {longest : ℕ} (x : Report) (r : Reception) {s : List ℕ} (w : Whole longest r s) → reportDelivered (deliveryOf hearing.Good r) (reportHeard hearing.Good x) r .error ≡ errorAfter (x .error) (r .winner) (w .frame)
+good-error : {longest : ℕ} (x : Report) (r : Reception) {s : List ℕ} (w : Whole longest r s) → reportDelivered (deliveryOf hearing.Good r) (reportHeard hearing.Good x) r .error ≡ errorAfter (x .error) (x .error) (r .winner) (w .frame)
 unfolding deliveryOf deliveryTo delivered fits errorAfter reportHeard
 good-error x r w = rw (w .count-is) (go (r .winner .matched) (leb (length (w .frame .bytes) + 1) (r .winner .length)))
   where
@@ -115,9 +139,37 @@ good-error x r w = rw (w .count-is) (go (r .winner .matched) (leb (length (w .fr
     go true false = unfold reportDelivered receiveError in refl
     go false b = unfold reportDelivered in refl
 
-unjudged-error : (k : Core) (h : Hearing) → roleIn k ≡ Receiver → stopped (k .service) ≡ Going → reportAfter k Unjudged h .error ≡ reportDelivered (deliveryOf h (k .reception)) (reportHeard h (k .report)) (k .reception) .error
-unfolding reportAfter ending endingOf serviceJudged advance delivers reportJudged
-unjudged-error k h q g = rw (q, g) (unfold reportEnded in refl)
+ended-error : (x : Ending) (p : Report) (s : Service) → reportEnded x p s .error ≡ p .error
+unfolding reportEnded
+ended-error Going p s = refl
+ended-error Sent p s = refl
+ended-error Exhausted p s = refl
+ended-error Aborted p s = refl
+ended-error Rearbitrated p s = refl
+ended-error Fulfilled p s = refl
+
+receiver-error : (k : Core) (h : Hearing) → roleIn k ≡ Receiver → reportAfter k Unjudged Unjudged h .error ≡ reportDelivered (deliveryOf h (k .reception)) (reportHeard h (k .report)) (k .reception) .error
+unfolding reportAfter reportReplied reportJudged delivers
+receiver-error k h q = rw q (ended-error _ (reportDelivered (deliveryOf h (k .reception)) (reportHeard h (k .report)) (k .reception)) _)
+
+-- an answer to the model's request
+answer-error : (d : Delivery) (p : Report) (r : Reception) (s : Service) → ℕ
+answer-error d p r s = reportJudged (goodFor d) (reportDelivered d (reportHeard hearing.Good p) r) s .error
+
+answers-error : (p : Report) (r : Reception) (s : Service) {l : List ℕ} {longest : ℕ} (w : Whole longest r l) → answer-error (deliveryOf hearing.Good r) p r s ≡ errorAfter (p .error) CV (r .winner) (w .frame)
+unfolding answer-error deliveryOf deliveryTo delivered fits errorAfter reportHeard
+answers-error p r s w = rw (w .count-is) (go (r .winner .matched) (leb (length (w .frame .bytes) + 1) (r .winner .length)))
+  where
+    go : (a b : Bool) → reportJudged (goodFor (pick a (pick b effect.Stored effect.Overflowed) effect.Nothing)) (reportDelivered (pick a (pick b effect.Stored effect.Overflowed) effect.Nothing) p r) s .error
+        ≡ pick a (pick b (p .error) BOV) CV
+    go true true = unfold goodFor reportJudged reportDelivered reportStored in refl
+    go true false = unfold goodFor reportJudged reportSending in refl
+    go false b = unfold goodFor reportJudged reportSending in refl
+
+asker-error : (k : Core) (w : Verdict) → roleIn k ≡ Asker → w ≡ goodFor (deliveryOf hearing.Good (k .reception))
+    → reportAfter k w Unjudged hearing.Good .error ≡ answer-error (deliveryOf hearing.Good (k .reception)) (k .report) (k .reception) (serviceJudged w (k .service))
+unfolding reportAfter reportReplied delivers answer-error
+asker-error k w q e = rw (q, e) (ended-error _ (reportJudged (goodFor (deliveryOf hearing.Good (k .reception))) (reportDelivered (deliveryOf hearing.Good (k .reception)) (reportHeard hearing.Good (k .report)) (k .reception)) _) _)
 
 -- the mailbox stands behind the channels
 cher-mailbox : (m : List ℕ) (c a : ℕ) → 128 ≤ a → getD (markedCher m c) a 0 ≡ getD m a 0
@@ -185,18 +237,18 @@ idle-active k =
     P : Core → Type 0
     P x = isActive (x .activity .mode) ≡ true → x .reception ≡ k .reception
 
-judged-reception : (m : List ℕ) (k : Core) (w : Verdict) (h : Hearing) (v : ℕ) → coreJudged m k w h v .reception ≡ receptionJudged m h (k .reception) v
+judged-reception : (m : List ℕ) (k : Core) (w q : Verdict) (h : Hearing) (v : ℕ) → coreJudged m k w q h v .reception ≡ receptionJudged m h (k .reception) v
 unfolding coreJudged
-judged-reception m k w h v = refl
+judged-reception m k w q h v = refl
 
-module _ (c : Controller) (w : Verdict) (v : ℕ) where
-  kept-judged : isActive (judgedSlot c w hearing.Follows v .core .activity .mode) ≡ true → underWay (judgedSlot c w hearing.Follows v .core .reception .place) ≡ true
+module _ (c : Controller) (w q : Verdict) (v : ℕ) where
+  kept-judged : isActive (judgedSlot c w q hearing.Follows v .core .activity .mode) ≡ true → underWay (judgedSlot c w q hearing.Follows v .core .reception .place) ≡ true
   unfolding judgedSlot
   kept-judged a =
-      let m : List ℕ = memoryJudged (c .memory) (c .core) w hearing.Follows in
-      let k : Core = coreJudged m (c .core) w hearing.Follows v in
+      let m : List ℕ = memoryJudged (c .memory) (c .core) w q hearing.Follows in
+      let k : Core = coreJudged m (c .core) w q hearing.Follows v in
       let e : followsOn m k .reception ≡ k .reception = follows-reception m k ∙ idle-active k (ap (λ (x : Activity). isActive (x .mode)) (sym (follows-activity m k)) ∙ a) in
-      ap (λ (x : Reception). underWay (x .place)) (e ∙ judged-reception m (c .core) w hearing.Follows v) ∙ judged-under-way m (c .core .reception) v
+      ap (λ (x : Reception). underWay (x .place)) (e ∙ judged-reception m (c .core) w q hearing.Follows v) ∙ judged-under-way m (c .core .reception) v
 
 -- the marks of a service that ends stand in the channels
 chtx-mailbox : (m : List ℕ) (c a : ℕ) → 128 ≤ a → getD (markedChtx m c) a 0 ≡ getD m a 0
@@ -210,41 +262,91 @@ ended-mailbox Sent m c a h = chtx-mailbox m c a h
 ended-mailbox Exhausted m c a h = chtx-mailbox (markedCher m c) c a h ∙ cher-mailbox m c a h
 ended-mailbox Aborted m c a h = chtx-mailbox m c a h
 ended-mailbox Rearbitrated m c a h = refl
+ended-mailbox Fulfilled m c a h = refl
 
--- a sample that is none of another module's frame leaves the mailboxes
-other-mailbox : (m : List ℕ) (k : Core) (w : Verdict) (h : Hearing) → (roleIn k ≡ Receiver → ⊥) → (a : ℕ) → 128 ≤ a → getD (memoryJudged m k w h) a 0 ≡ getD m a 0
+chrx-mailbox : (m : List ℕ) (c a : ℕ) → 128 ≤ a → getD (markedChrx m c) a 0 ≡ getD m a 0
+unfolding markedChrx base
+chrx-mailbox m c a h = getD-set-other m (0x10 + 8 * (c % 14) + 3) a _ 0 (λ e. omega arith)
+
+replied-mailbox : (q : Verdict) (m : List ℕ) (c a : ℕ) → 128 ≤ a → getD (memoryReplied q m c) a 0 ≡ getD m a 0
+unfolding memoryReplied
+replied-mailbox Unjudged m c a h = refl
+replied-mailbox Goes m c a h = refl
+replied-mailbox Lost m c a h = refl
+replied-mailbox (Failed code) m c a h = cher-mailbox m c a h
+replied-mailbox Done m c a h = chrx-mailbox (markedChtx m c) c a h ∙ chtx-mailbox m c a h
+replied-mailbox Answered m c a h = refl
+
+-- marks stand in the channels: the mailboxes are as the delivery leaves them
+judged-mailbox : (m : List ℕ) (k : Core) (w q : Verdict) (h : Hearing) (a : ℕ) → 128 ≤ a → getD (memoryJudged m k w q h) a 0 ≡ getD (memoryDelivered (delivers (roleIn k) h (k .reception)) m (k .reception)) a 0
 unfolding memoryJudged
-other-mailbox m k w h n a i =
-    ended-mailbox (ending k w) (memoryDelivered (delivers (roleIn k) h (k .reception)) m (k .reception)) (k .service .channel) a i ∙ go (roleIn k) refl
-  where
-    go : (x : Role) → roleIn k ≡ x → getD (memoryDelivered (delivers x h (k .reception)) m (k .reception)) a 0 ≡ getD m a 0
-    go Nobody e = unfold delivers memoryDelivered in refl
-    go Receiver e = absurd (n e)
-    go Sender e = unfold delivers memoryDelivered in refl
+judged-mailbox m k w q h a i =
+    replied-mailbox q _ (k .reply .channel) a i ∙ ended-mailbox (ending k w h) (memoryDelivered (delivers (roleIn k) h (k .reception)) m (k .reception)) (k .service .channel) a i
+
+-- a sample that is none of another module's frame leaves them
+other-mailbox : (x : Role) → receives x ≡ false → (h : Hearing) (m : List ℕ) (r : Reception) (a : ℕ) → getD (memoryDelivered (delivers x h r) m r) a 0 ≡ getD m a 0
+unfolding receives delivers
+other-mailbox Nobody e h m r a = unfold memoryDelivered in refl
+other-mailbox Receiver e h m r a = absurd (false≢true (sym e))
+other-mailbox Sender e h m r a = unfold memoryDelivered in refl
+other-mailbox Asker e h m r a = absurd (false≢true (sym e))
+other-mailbox Replier e h m r a = unfold memoryDelivered in refl
+
+receives-delivers : (x : Role) → receives x ≡ true → (h : Hearing) (r : Reception) → delivers x h r ≡ deliveryOf h r
+unfolding receives delivers
+receives-delivers Nobody e h r = absurd (false≢true e)
+receives-delivers Receiver e h r = refl
+receives-delivers Sender e h r = absurd (false≢true e)
+receives-delivers Asker e h r = refl
+receives-delivers Replier e h r = absurd (false≢true e)
+
+receives-drives : (x : Role) → receives x ≡ true → (k : Core) → drivesAs x k ≡ receiverLevel (k .reception)
+unfolding receives drivesAs
+receives-drives Nobody e k = absurd (false≢true e)
+receives-drives Receiver e k = refl
+receives-drives Sender e k = absurd (false≢true e)
+receives-drives Asker e k = refl
+receives-drives Replier e k = absurd (false≢true e)
+
+receives-hears : (x : Role) → receives x ≡ true → (k : Core) (w : Verdict) (v : ℕ) → heardAs x k w v ≡ hearFrame (k .reception) (longestOf k) v
+unfolding receives heardAs
+receives-hears Nobody e k w v = absurd (false≢true e)
+receives-hears Receiver e k w v = refl
+receives-hears Sender e k w v = absurd (false≢true e)
+receives-hears Asker e k w v = refl
+receives-hears Replier e k w v = absurd (false≢true e)
 
 module _ (c : Controller) (t : Tally) (levels : ℕ) (y : accepted c (Slot levels) ≡ true) (a : isActive (c .core .activity .mode) ≡ true) where
   slot-next : next c (Slot levels) ≡ sampledSlot c (sampleOf c levels)
   slot-next = active-next c t levels y a (step-of c (Slot levels))
 
+  abbrev v : ℕ
+  v = sampleOf c levels
+
+  abbrev w : Verdict
+  w = verdict (c .core) v
+
+  abbrev q : Verdict
+  q = replyVerdict (roleIn (c .core)) (c .core) v
+
   heeds-kept : hears c levels ≡ hearing.Follows → isActive (next c (Slot levels) .core .activity .mode) ≡ true → underWay (next c (Slot levels) .core .reception .place) ≡ true
   heeds-kept h =
-      let n : next c (Slot levels) ≡ judgedSlot c (judge (c .core .service .effort) (sampleOf c levels)) hearing.Follows (sampleOf c levels) = slot-next ∙ (unfold sampledSlot in ap (λ (x : Hearing). judgedSlot c (judge (c .core .service .effort) (sampleOf c levels)) x (sampleOf c levels)) h) in
-      rw n (kept-judged c (judge (c .core .service .effort) (sampleOf c levels)) (sampleOf c levels))
+      let n : next c (Slot levels) ≡ judgedSlot c w q hearing.Follows v = slot-next ∙ (unfold sampledSlot in ap (λ (x : Hearing). judgedSlot c w q x v) h) in
+      rw n (kept-judged c w q v)
 
-  slot-memory : next c (Slot levels) .memory ≡ memoryJudged (c .memory) (c .core) (judge (c .core .service .effort) (sampleOf c levels)) (hears c levels)
+  slot-memory : next c (Slot levels) .memory ≡ memoryJudged (c .memory) (c .core) w q (hears c levels)
   unfolding sampledSlot judgedSlot
   slot-memory = ap (λ (x : Controller). x .memory) slot-next
 
-  slot-error : next c (Slot levels) .core .report .error ≡ reportAfter (c .core) (judge (c .core .service .effort) (sampleOf c levels)) (hears c levels) .error
+  slot-error : next c (Slot levels) .core .report .error ≡ reportAfter (c .core) w q (hears c levels) .error
   unfolding sampledSlot judgedSlot coreJudged
-  slot-error =
-      ap (λ (x : Controller). x .core .report .error) slot-next
-      ∙ follows-error (memoryJudged (c .memory) (c .core) (judge (c .core .service .effort) (sampleOf c levels)) (hears c levels)) _
+  slot-error = ap (λ (x : Controller). x .core .report .error) slot-next ∙ follows-error (memoryJudged (c .memory) (c .core) w q (hears c levels)) _
 
-  heeds-mailbox : (role c ≡ Receiver → ⊥) → (b : ℕ) → 128 ≤ b → getD (next c (Slot levels) .memory) b 0 ≡ getD (c .memory) b 0
-  heeds-mailbox n b i =
-      ap (λ (x : List ℕ). getD x b 0) slot-memory
-      ∙ other-mailbox (c .memory) (c .core) (judge (c .core .service .effort) (sampleOf c levels)) (hears c levels) n b i
+  slot-mailbox : (b : ℕ) → 128 ≤ b → getD (next c (Slot levels) .memory) b 0 ≡ getD (memoryDelivered (delivers (role c) (hears c levels) (c .core .reception)) (c .memory) (c .core .reception)) b 0
+  slot-mailbox b i = ap (λ (x : List ℕ). getD x b 0) slot-memory ∙ judged-mailbox (c .memory) (c .core) w q (hears c levels) b i
+
+  heeds-mailbox : receives (role c) ≡ false → (b : ℕ) → 128 ≤ b → getD (next c (Slot levels) .memory) b 0 ≡ getD (c .memory) b 0
+  heeds-mailbox n b i = slot-mailbox b i ∙ other-mailbox (role c) n (hears c levels) (c .memory) (c .core .reception) b
 
   heeds : Heeds c levels
   heeds = record { begins = begins-frame c levels; kept = heeds-kept; mailbox = heeds-mailbox }
@@ -254,45 +356,87 @@ module _ (c : Controller) (t : Tally) (levels : ℕ) (y : accepted c (Slot level
 valid-as : {w x : Winner} {f : Frame} → w ≡ x → Valid x f → Valid w f
 valid-as {w} {x} {f} e v = subst (λ (z : Winner). Valid z f) (sym e) v
 
-module _ (c : Controller) (t : Tally) (l : Log) (i : Logs c l) (levels : ℕ) (y : accepted c (Slot levels) ≡ true) (a : isActive (c .core .activity .mode) ≡ true) (q : role c ≡ Receiver) where
-  follows : Following (longestOf (c .core)) (c .core .reception) l
-  follows = let z = receiver-is (c .core .service .effort .progress) (c .core .reception .place) q in following-at (i .stands .stage) (z .0) (z .1)
+-- what the sample is for attempt and reply, where the model receives
+receiver-verdict : (k : Core) (v : ℕ) → roleIn k ≡ Receiver → verdict k v ≡ Unjudged
+unfolding verdict verdictAs
+receiver-verdict k v q = rw q
 
-  invariant : Invariant (longestOf (c .core)) (c .core .reception) (l .samples)
+asker-verdict : (k : Core) (v : ℕ) → roleIn k ≡ Asker → hearFrame (k .reception) (longestOf k) v ≡ hearing.Good → verdict k v ≡ goodFor (deliveryOf hearing.Good (k .reception))
+unfolding verdict verdictAs answeredAs
+asker-verdict k v q h = rw (q, h)
+
+no-reply-judged : (k : Core) (v : ℕ) → receives (roleIn k) ≡ true → replyVerdict (roleIn k) k v ≡ Unjudged
+no-reply-judged k v h = go (roleIn k) h
+  where
+    go : (x : Role) → receives x ≡ true → replyVerdict x k v ≡ Unjudged
+    go Nobody e = absurd (false≢true (unfold receives in e))
+    go Receiver e = unfold replyVerdict in refl
+    go Sender e = absurd (false≢true (unfold receives in e))
+    go Asker e = unfold replyVerdict in refl
+    go Replier e = absurd (false≢true (unfold receives in e))
+
+module _ (c : Controller) (t : Tally) (l : Log) (i : Logs c l) (levels : ℕ) (y : accepted c (Slot levels) ≡ true) (a : isActive (c .core .activity .mode) ≡ true) (q : receives (role c) ≡ true) where
+  abbrev r : Reception
+  r = c .core .reception
+
+  abbrev u : ℕ
+  u = sampleOf c levels
+
+  follows : Following (longestOf (c .core)) r l
+  follows = receives-follows (c .core) l (i .stands .stage) q
+
+  invariant : Invariant (longestOf (c .core)) r (l .samples)
   invariant = follows .invariant
 
-  hears-is : hears c levels ≡ hearFrame (c .core .reception) (longestOf (c .core)) (sampleOf c levels)
-  hears-is = let z = receiver-is (c .core .service .effort .progress) (c .core .reception .place) q in heard-receiver (c .core) _ (sampleOf c levels) (z .0) (z .1)
+  hears-is : hears c levels ≡ hearFrame r (longestOf (c .core)) u
+  unfolding heard
+  hears-is = receives-hears (role c) q (c .core) _ u
 
-  next-memory : next c (Slot levels) .memory ≡ memoryDelivered (deliveryOf (hears c levels) (c .core .reception)) (c .memory) (c .core .reception)
-  next-memory =
-      let z = receiver-is (c .core .service .effort .progress) (c .core .reception .place) q in
+  next-memory : role c ≡ Receiver → next c (Slot levels) .memory ≡ memoryDelivered (deliveryOf (hears c levels) r) (c .memory) r
+  next-memory e =
       slot-memory c t levels y a
-      ∙ ap (λ (w : Verdict). memoryJudged (c .memory) (c .core) w (hears c levels)) (judge-apart (c .core .service .effort) (sampleOf c levels) (z .0))
-      ∙ unjudged-memory (c .memory) (c .core) (hears c levels) q (i .stands .going)
+      ∙ ap (λ (x : Verdict). memoryJudged (c .memory) (c .core) x (replyVerdict (role c) (c .core) u) (hears c levels)) (receiver-verdict (c .core) u e)
+      ∙ ap (λ (x : Verdict). memoryJudged (c .memory) (c .core) Unjudged x (hears c levels)) (no-reply-judged (c .core) u q)
+      ∙ receiver-memory (c .memory) (c .core) (hears c levels) e (i .stands .going)
 
-  next-error : next c (Slot levels) .core .report .error ≡ reportDelivered (deliveryOf (hears c levels) (c .core .reception)) (reportHeard (hears c levels) (c .core .report)) (c .core .reception) .error
-  next-error =
-      let z = receiver-is (c .core .service .effort .progress) (c .core .reception .place) q in
+  next-mailbox : (b : ℕ) → 128 ≤ b → getD (next c (Slot levels) .memory) b 0 ≡ getD (memoryDelivered (deliveryOf (hears c levels) r) (c .memory) r) b 0
+  next-mailbox b h =
+      slot-mailbox c t levels y a b h ∙ ap (λ (d : Delivery). getD (memoryDelivered d (c .memory) r) b 0) (receives-delivers (role c) q (hears c levels) r)
+
+  good-next : hears c levels ≡ hearing.Good → (w : Whole (longestOf (c .core)) r (l .samples ++ (u ∷ []))) → (x : Role) → role c ≡ x
+      → next c (Slot levels) .core .report .error ≡ errorAfter (c .core .report .error) (untaken x (c .core .report .error)) (r .winner) (w .frame)
+  good-next h w Nobody e = absurd (false≢true (unfold receives in (subst (λ (x : Role). receives x ≡ true) e q)))
+  good-next h w Receiver e =
       slot-error c t levels y a
-      ∙ ap (λ (w : Verdict). reportAfter (c .core) w (hears c levels) .error) (judge-apart (c .core .service .effort) (sampleOf c levels) (z .0))
-      ∙ unjudged-error (c .core) (hears c levels) q (i .stands .going)
+      ∙ ap (λ (x : Verdict). reportAfter (c .core) x (replyVerdict (role c) (c .core) u) (hears c levels) .error) (receiver-verdict (c .core) u e)
+      ∙ ap (λ (x : Verdict). reportAfter (c .core) Unjudged x (hears c levels) .error) (no-reply-judged (c .core) u q)
+      ∙ receiver-error (c .core) (hears c levels) e
+      ∙ ap (λ (x : Hearing). reportDelivered (deliveryOf x r) (reportHeard x (c .core .report)) r .error) h
+      ∙ good-error (c .core .report) r w ∙ (unfold untaken in refl)
+  good-next h w Sender e = absurd (false≢true (unfold receives in (subst (λ (x : Role). receives x ≡ true) e q)))
+  good-next h w Asker e =
+      let g : hearFrame r (longestOf (c .core)) u ≡ hearing.Good = sym hears-is ∙ h in
+      slot-error c t levels y a
+      ∙ ap (λ (x : Verdict). reportAfter (c .core) (verdict (c .core) u) x (hears c levels) .error) (no-reply-judged (c .core) u q)
+      ∙ ap (λ (x : Hearing). reportAfter (c .core) (verdict (c .core) u) Unjudged x .error) h
+      ∙ asker-error (c .core) (verdict (c .core) u) e (asker-verdict (c .core) u e g)
+      ∙ answers-error (c .core .report) r _ w ∙ (unfold untaken in refl)
+  good-next h w Replier e = absurd (false≢true (unfold receives in (subst (λ (x : Role). receives x ≡ true) e q)))
 
   taken : hears c levels ≡ hearing.Good → Taken c l levels
   taken h =
-      let w = invariant-good (c .core .reception) (l .samples) invariant (sampleOf c levels) (sample-small c levels) (sym hears-is ∙ h) in
-      let n : c .core .reception .winner ≡ taker l (w .frame) = taker-is (c .core .reception) l follows (w .frame) (w .high-is) (w .low-is) in
+      let w = invariant-good r (l .samples) invariant u (sample-small c levels) (sym hears-is ∙ h) in
+      let n : r .winner ≡ taker l (w .frame) = taker-is r l follows (w .frame) (w .high-is) (w .low-is) in
+      let m : memoryDelivered (deliveryOf (hears c levels) r) (c .memory) r ≡ received (c .memory) (taker l (w .frame)) (w .frame)
+      = ap (λ (x : Hearing). memoryDelivered (deliveryOf x r) (c .memory) r) h ∙ good-memory (c .memory) r w ∙ ap (λ (x : Winner). received (c .memory) x (w .frame)) n in
       record {
         frame = w .frame;
         fits = w .fits;
         whole = w .slots-are;
         valid = valid-as (sym n) (w .valid);
-        memory =
-            next-memory ∙ ap (λ (x : Hearing). memoryDelivered (deliveryOf x (c .core .reception)) (c .memory) (c .core .reception)) h
-            ∙ good-memory (c .memory) (c .core .reception) w ∙ ap (λ (x : Winner). received (c .memory) x (w .frame)) n;
-        error =
-            next-error ∙ ap (λ (x : Hearing). reportDelivered (deliveryOf x (c .core .reception)) (reportHeard x (c .core .report)) (c .core .reception) .error) h
-            ∙ good-error (c .core .report) (c .core .reception) w ∙ ap (λ (x : Winner). errorAfter (c .core .report .error) x (w .frame)) n;
+        memory = λ e. next-memory e ∙ m;
+        mailbox = λ b k. next-mailbox b k ∙ ap (λ (x : List ℕ). getD x b 0) m;
+        error = good-next h w (role c) refl ∙ ap (λ (x : Winner). errorAfter (c .core .report .error) (untaken (role c) (c .core .report .error)) x (w .frame)) n;
       }
 
   delivers-slot : Delivers c l levels
@@ -304,7 +448,7 @@ module _ (c : Controller) (t : Tally) (l : Log) (i : Logs c l) (levels : ℕ) (y
             λ code h f g v rest e.
             invariant-fault (c .core .reception) (l .samples) invariant f g (valid-as (taker-opens (c .core .reception) l follows f g (sampleOf c levels ∷ rest) e) v) (sampleOf c levels) code rest e (sym hears-is ∙ h);
         silent = λ h. invariant-silent (c .core .reception) (l .samples) invariant (sampleOf c levels) (sym hears-is ∙ h);
-        early = λ n b h. ap (λ (x : List ℕ). getD x b 0) next-memory ∙ early-memory (c .memory) (c .core .reception) (hears c levels) n b h;
+        early = λ n b h. next-mailbox b h ∙ early-memory (c .memory) (c .core .reception) (hears c levels) n b h;
       }
 
 -- ---- the acknowledge
@@ -349,10 +493,9 @@ unfolding receiverLevel
 invariant-owed {longest} r s t f g o rest n e = owed-in longest r s f g o rest n e (r .place .phase) (t .holds)
 
 module _ (c : Controller) (l : Log) (i : Logs c l) where
-  owing : role c ≡ Receiver → receiverLevel (c .core .reception) ≡ 0 → Owing (longestOf (c .core)) l
+  owing : receives (role c) ≡ true → receiverLevel (c .core .reception) ≡ 0 → Owing (longestOf (c .core)) l
   owing q h =
-      let z = receiver-is (c .core .service .effort .progress) (c .core .reception .place) q in
-      let f : Following (longestOf (c .core)) (c .core .reception) l = following-at (i .stands .stage) (z .0) (z .1) in
+      let f : Following (longestOf (c .core)) (c .core .reception) l = receives-follows (c .core) l (i .stands .stage) q in
       let o = invariant-acknowledges (c .core .reception) (l .samples) (f .invariant) h in
       let n : c .core .reception .winner ≡ taker l (o .frame) = taker-is (c .core .reception) l f (o .frame) (o .high-is) (o .low-is) in
       record {
@@ -364,22 +507,23 @@ module _ (c : Controller) (l : Log) (i : Logs c l) where
         samples = o .samples;
       }
 
-  only-owed : drives (c .core) ≡ 0 → (role c ≡ Sender → ⊥) → Owing (longestOf (c .core)) l
+  only-owed : drives (c .core) ≡ 0 → ownFrame (role c) ≡ false → Owing (longestOf (c .core)) l
   unfolding drives
   only-owed h n = go (role c) refl h
     where
       go : (x : Role) → role c ≡ x → drivesAs x (c .core) ≡ 0 → Owing (longestOf (c .core)) l
       go Nobody e d = absurd (let z : _≡_ {A = ℕ} 1 0 = unfold drivesAs in d in omega arith)
-      go Receiver e d = owing e (unfold drivesAs in d)
-      go Sender e d = absurd (n e)
+      go Receiver e d = owing (rw e (unfold receives in refl)) (unfold drivesAs in d)
+      go Sender e d = absurd (false≢true (sym (subst (λ (x : Role). ownFrame x ≡ false) e n) ∙ (unfold ownFrame in refl)))
+      go Asker e d = owing (rw e (unfold receives in refl)) (unfold drivesAs in d)
+      go Replier e d = absurd (false≢true (sym (subst (λ (x : Role). ownFrame x ≡ false) e n) ∙ (unfold ownFrame in refl)))
 
-  due-driven : role c ≡ Receiver → (f : Frame) → Fits (longestOf (c .core)) f → owes (taker l f) f ≡ true → (rest : List ℕ) → length rest ≡ 9 → l .samples ++ rest ≡ slots f → drives (c .core) ≡ 0
-  unfolding drives drivesAs
+  due-driven : receives (role c) ≡ true → (f : Frame) → Fits (longestOf (c .core)) f → owes (taker l f) f ≡ true → (rest : List ℕ) → length rest ≡ 9 → l .samples ++ rest ≡ slots f → drives (c .core) ≡ 0
+  unfolding drives
   due-driven q f g o rest n e =
-      let z = receiver-is (c .core .service .effort .progress) (c .core .reception .place) q in
-      let w : Following (longestOf (c .core)) (c .core .reception) l = following-at (i .stands .stage) (z .0) (z .1) in
+      let w : Following (longestOf (c .core)) (c .core .reception) l = receives-follows (c .core) l (i .stands .stage) q in
       let k : c .core .reception .winner ≡ taker l f = taker-opens (c .core .reception) l w f g rest e in
-      rw q (invariant-owed (c .core .reception) (l .samples) (w .invariant) f g (ap (λ (x : Winner). owes x f) k ∙ o) rest n e)
+      receives-drives (role c) q (c .core) ∙ invariant-owed (c .core .reception) (l .samples) (w .invariant) f g (ap (λ (x : Winner). owes x f) k ∙ o) rest n e
 
   acknowledged : Acknowledges c l
   acknowledged = record { only = only-owed; due = due-driven }
@@ -392,14 +536,11 @@ delivers-in c t l i (Slot levels) = λ y a. (heeds c t levels y a, delivers-slot
 
 -- ---- every list of events
 
-from : (c : Controller) (t : Tally) (l : Log) → Logs c l → Joined c t → Fine c → (es : List Event) → ReceivingOver c l es
-from c t l i j f [] = acknowledged c l i
-from c t l i j f (e ∷ es) =
-    (acknowledged c l i, delivers-in c t l i e, from (next c e) (nextT c t e) (logNext c l e) (next-logs c t l i j e (step-of c e)) (joined-next c t j f e (step-of c e)) (fine-next c e f) es)
-
-logs-fresh : Logs fresh noLog
-logs-fresh = record { stands = unfold fresh resetAll resetCore in apart-stands noLog; empty = λ e. refl }
+from : (c : Controller) (t : Tally) (l : Log) → Kept c t l → Joined c t → Fine c → (es : List Event) → ReceivingOver c l es
+from c t l k j f [] = acknowledged c l (k .logs)
+from c t l k j f (e ∷ es) =
+    (acknowledged c l (k .logs), delivers-in c t l (k .logs) e, from (next c e) (nextT c t e) (logNext c l e) (kept-next c t l f j k e) (joined-next c t j f (coming c t l f j k) e (step-of c e)) (fine-next c e f) es)
 
 -- every list of events from a fresh controller
 pub delivery : (es : List Event) → ReceivingOver fresh noLog es
-delivery es = from fresh none noLog logs-fresh joined-fresh fine-fresh es
+delivery es = from fresh none noLog kept-fresh joined-fresh fine-fresh es

@@ -4,13 +4,13 @@
 use Prim.Native.Nat.{ℕ, suc, _+_, _-_, _*_, _/_, _%_, _≤_, _<_}
 use mathlib.Core.Bool.{Bool, true, false, not, false≢true}
 use mathlib.Core.List.{List, [], _∷_, _++_, append-assoc}
-use mathlib.Core.Path.{_≡_, refl, ap, _∙_, sym}
+use mathlib.Core.Path.{_≡_, refl, ap, _∙_, sym, subst}
 use native.Mathlib.Omega.{arith}
-use borrow.Author.Tests.{eq-eqb, ne-eqb, lt-ltb, le-ltb, eqb-true, eqb-false, ltb-false}
+use borrow.Author.Tests.{eq-eqb, ne-eqb, lt-ltb, le-ltb, eqb-true, eqb-false, ltb-true, ltb-false}
 use lib.Dec.{eqb, ltb}
 use lib.ListN.{length, getD, set, take, length-append}
 use lib.Seq.{take-at, getD-set-other}
-use Rattle.line.specs.Bits.{pick, bits}
+use Rattle.line.specs.Bits.{pick, bits, Below}
 use Rattle.line.specs.LineCode.{lineCode}
 use Rattle.line.specs.Frame.{Frame, Fits, covered, carried, start, endOfData, endOfFrame, acknowledgeSlots, slots, size}
 use Rattle.line.specs.Layout.{inFive}
@@ -23,7 +23,7 @@ use Rattle.rules.specs.Definitions.Longest.{capacity, mostNibbles}
 use Rattle.rules.specs.Definitions.Hearing.{whole, replyRequest, checkReceived, checkDue, hearEndOfData, hearSecondHalf, hearBody, hearStart, fits, acknowledges, acknowledgeWrong, hearAcknowledge, hearEnd, hearIn, hearFrame, acknowledgeLevel, receiverIn, receiverLevel}
 use Rattle.rules.specs.Statements.Valid.{Valid, high, low}
 use Rattle.rules.proofs.Logic.{left}
-use Rattle.rules.proofs.Receiving.Invariant.{frameHeld, InAcknowledge, InEnd, InvariantIn, Invariant, Whole, Owed}
+use Rattle.rules.proofs.Receiving.Invariant.{frameHeld, InBody, InAcknowledge, InEnd, InvariantIn, Invariant, Whole, Owed}
 use Rattle.rules.proofs.Receiving.Held.{held-high, held-low, held-length, held-fits}
 use Rattle.rules.proofs.Receiving.InvariantSteps.{fault-follows, fault-good, good-follows, step-invariant, owes-held, held-request}
 use Rattle.rules.proofs.Receiving.InvariantFrames.{start-long, body-long, acknowledge-long, end-long, held-slots, closing-length, body-opens, acknowledge-same, end-same, body-header}
@@ -331,6 +331,26 @@ module _ (longest : ℕ) (r : Reception) (s : List ℕ) where
       let k = end-same f fits r s t rest e in
       absurd (omega (arith, end-long r s t, k .count))
 
+-- ---- how far the frame has come
+
+end-within : (at : ℕ) (a b : Bool) → ltb at 7 ≡ b → pick a (Fault CV) (pick b Follows Good) ≡ Follows → at < 7
+end-within at true b d e = absurd (fault-follows e)
+end-within at false true d e = ltb-true at 7 d
+end-within at false false d e = absurd (good-follows e)
+
+module _ (longest : ℕ) (r : Reception) (s : List ℕ) where
+  as-body : InvariantIn longest Body r s → InBody longest r s
+  unfolding InvariantIn
+  as-body t = t
+
+  short-in : (v : ℕ) (p : Phase) → InvariantIn longest p r s → hearIn p r longest v ≡ Follows → length s + 1 < size longest
+  unfolding InvariantIn hearIn hearEnd size
+  short-in v Quiet t e = absurd t
+  short-in v Start t e = omega (arith, start-long r s t, t .within)
+  short-in v Body t e = omega (arith, body-long r s t, t .within, t .nibbles)
+  short-in v Acknowledge t e = omega (arith, acknowledge-long r s t, t .within, t .held .count)
+  short-in v End t e = let i = end-within (r .place .at) (eqb v 0) (ltb (r .place .at) 7) refl e in omega (arith, end-long r s t, t .held .count)
+
 -- ---- the laws
 
 module _ {longest : ℕ} (r : Reception) (s : List ℕ) (t : Invariant longest r s) where
@@ -399,3 +419,15 @@ module _ {longest : ℕ} (r : Reception) (s : List ℕ) (t : Invariant longest r
   pub invariant-open : (f : Frame) → Fits longest f → (rest : List ℕ) → s ++ rest ≡ slots f → 10 ≤ length s → length s < 50 + 10 * length (f .bytes) → inFive (length s) < 4 → (v : ℕ) → hearFrame r longest v ≡ Follows
   unfolding hearFrame
   invariant-open f fits rest e a b c v = open-in longest r s (r .place .phase) invariant-in f fits rest e a b c v
+
+  -- between identifier and end of data the place tells how many samples there are
+  pub invariant-body : r .place .phase ≡ Body → length s ≡ 10 + 5 * r .nibbles + r .place .at
+  invariant-body e = body-long r s (as-body longest r s (subst (λ (p : Phase). InvariantIn longest p r s) e invariant-in))
+
+  -- a slot that follows is not the last of the longest frame
+  pub invariant-short : (v : ℕ) → hearFrame r longest v ≡ Follows → length s + 1 < size longest
+  unfolding hearFrame
+  invariant-short v e = short-in longest r s v (r .place .phase) invariant-in e
+
+  pub invariant-below : r .place .phase ≡ Body → Below 256 (r .bytes)
+  invariant-below e = as-body longest r s (subst (λ (p : Phase). InvariantIn longest p r s) e invariant-in) .below

@@ -1,6 +1,6 @@
 -- Controller and log over every event: idle, choice and start, a host write, a slot.
 --   Logs == they belong together: next-logs
-use Prim.Native.Nat.{ℕ, _-_, _/_, _%_, _<_}
+use Prim.Native.Nat.{ℕ, _-_, _/_, _%_, _<_, _≤_, _+_}
 use mathlib.Core.Bool.{Bool, true, false, false≢true, not}
 use mathlib.Core.List.{List}
 use mathlib.Core.Path.{_≡_, refl, ap, _∙_, sym, subst}
@@ -8,7 +8,7 @@ use native.Mathlib.Omega.{arith}
 use borrow.Author.Tests.{le-ltb, eqb-true}
 use lib.Dec.{eqb}
 use lib.ListN.{getD}
-use Rattle.line.specs.Bits.{pick}
+use Rattle.line.specs.Bits.{pick, Below}
 use Rattle.line.specs.Frame.{Fits}
 use Rattle.line.proofs.Laws.{picked}
 use Rattle.rules.specs.Definitions.Setters.{withActivity, withReport, withService}
@@ -17,20 +17,24 @@ use Rattle.rules.specs.Definitions.Registers.{both, lineControl, diagnos
 use Rattle.rules.specs.Definitions.Channels.{lowestReady}
 use Rattle.rules.specs.Definitions.Reception.{atPlace, quiet, isUnderWay, underWay, behind, inBody, isBody, free, startEnded}
 use Rattle.rules.proofs.Receiving.InvariantLaws.{invariant-under-way}
-use Rattle.rules.specs.Definitions.Attempt.{atStage, betweenAttempts, isBetween, drivesFrame, isDriving, judge, noCounts, inService, isServing, waits, isWaiting, exhausted}
-use Rattle.rules.specs.Definitions.Service.{resting, stopped, settled, reportSending, reportEnded, chosen, choiceOf, choose, opened, started, abortAsked, rearAsked, aborts}
+use Rattle.rules.specs.Definitions.Attempt.{atStage, betweenAttempts, isBetween, drivesFrame, isDriving, noCounts, inService, isServing, waits, isWaiting, exhausted, isAnswered, isAnswering}
+use Rattle.rules.specs.Definitions.Service.{resting, stopped, settled, reportSending, reportEnded, chosen, choiceOf, choose, opened, started, abortAsked, rearAsked, aborts, noReply, fulfils}
 use Rattle.rules.specs.Definitions.State.{isActive, inMode, serving, resetCore, idled, idleDue, slept, idleAsked, activated}
-use Rattle.rules.specs.Definitions.Slots.{heard, ending, memoryJudged, coreJudged, chooses, choiceMade, startMade, followsOn, sampleOf, judgedSlot, sampledSlot, activeSlot}
+use Rattle.rules.specs.Definitions.Slots.{heard, ending, memoryJudged, coreJudged, chooses, choiceMade, startMade, followsOn, sampleOf, judgedSlot, sampledSlot, activeSlot, roleIn, replyVerdict, heardAs, delivers, verdictAs, verdict}
 use Rattle.rules.specs.Definitions.Host.{resetAll, resets, sleeps, modeCommanded, rearCommanded, flagsCleared, coreWritten, serviceAsked, stoppedCore, byteWritten, hostWritten}
-use Rattle.rules.specs.Definitions.Run.{accept, answered, restedSlot, step, next}
-use Rattle.rules.specs.Statements.Tally.{Stand, away, between, opening, inside, Tally, isAway}
+use Rattle.rules.specs.Definitions.Run.{accept, restedSlot, step, next}
+use Rattle.rules.specs.Definitions.Run as run
+use Rattle.rules.specs.Statements.Tally.{Stand, away, between, opening, inside, Tally, isAway, answered}
 use Rattle.rules.specs.Statements.Observer.{accepted}
 use Rattle.rules.proofs.Sending.Join.{made, serviceIn, serviceOf}
 use Rattle.rules.proofs.Steps.{Step, refusal, reset, wrote, gave, went, rested, refused-next, refused-not, accepted-next}
 use Rattle.rules.proofs.Sending.Demand3.{Joined}
+use Rattle.rules.proofs.Samples.{sample-small}
+use Rattle.rules.proofs.Roles.{role-sender}
+use Rattle.rules.proofs.OwnFrames.Steady.{effort-asked, written-reply}
 use Rattle.rules.specs.Statements.Receiving.{Log, noLog, sampledLog, logIn, logNext}
 use Rattle.rules.proofs.Receiving.OwnAttempt.{Own, Placed, inCode}
-use Rattle.rules.proofs.Receiving.Log.{At, Stands, apart, closing, driving, receiving, resting-apart, resting-going, sampled-stands, settled-going, settledAfter, starting}
+use Rattle.rules.proofs.Receiving.Log.{At, Stands, apart, closing, driving, receiving, resting-going, sampled-stands, settled-going, starting, Away, asking, replying, replied, resting-away, placed-later, body-is, settledBy}
 use Rattle.rules.specs.declared.Report.{Report}
 use Rattle.rules.specs.declared.Choice.{Choice}
 use Rattle.rules.specs.declared.Choice.the-variants.{Nothing, Lowest}
@@ -39,11 +43,16 @@ use Rattle.rules.specs.declared.Phase.{Phase}
 use Rattle.rules.specs.declared.Phase.the-variants.{Quiet, Start, Body, Acknowledge, End}
 use Rattle.rules.specs.declared.Reception.{Reception}
 use Rattle.rules.specs.declared.Stage.{Stage}
+use Rattle.rules.specs.declared.Stage.the-variants as stage
 use Rattle.rules.specs.declared.Stage.the-variants.{Resting, Waiting, Opening, Sending}
+use Rattle.rules.specs.declared.Progress.{Progress}
+use Rattle.rules.specs.declared.ImmediateReply.{ImmediateReply}
+use Rattle.rules.specs.declared.Verdict.{Verdict}
+use Rattle.rules.specs.declared.Hearing.{Hearing}
 use Rattle.rules.specs.declared.Effort.{Effort}
 use Rattle.rules.specs.declared.Service.{Service}
 use Rattle.rules.specs.declared.Ending.{Ending}
-use Rattle.rules.specs.declared.Ending.the-variants.{Going, Sent, Exhausted, Aborted, Rearbitrated}
+use Rattle.rules.specs.declared.Ending.the-variants.{Going, Sent, Exhausted, Aborted, Rearbitrated, Fulfilled}
 use Rattle.rules.specs.declared.Mode.the-variants.{Active}
 use Rattle.rules.specs.declared.Core.{Core}
 use Rattle.rules.specs.declared.Controller.{Controller}
@@ -51,16 +60,32 @@ use Rattle.rules.specs.declared.Event.{Event}
 use Rattle.rules.specs.declared.Event.the-variants.{Reset, Write, Read, Slot}
 
 abbrev StandsIn : Log → Core → Type 0
-StandsIn l k = Stands (longestOf k) (k .service) (k .reception) l
+StandsIn l k = Stands (longestOf k) (k .service) (k .reply) (k .reception) l
 
 -- ---- a waiting idle that has come due
 
-no-service-apart : (p : Stage) → isServing p ≡ false → isDriving p ≡ false
+idle-drives : (x : Stage) → isServing x ≡ false → isDriving x ≡ false
 unfolding isServing isDriving
-no-service-apart Resting e = refl
-no-service-apart Waiting e = refl
-no-service-apart Opening e = absurd (false≢true (sym e))
-no-service-apart Sending e = absurd (false≢true (sym e))
+idle-drives Resting e = refl
+idle-drives Waiting e = refl
+idle-drives Opening e = absurd (false≢true (sym e))
+idle-drives Sending e = absurd (false≢true (sym e))
+idle-drives stage.Receiving e = refl
+
+idle-answers : (x : Stage) → isServing x ≡ false → isAnswering x ≡ false
+unfolding isServing isAnswering
+idle-answers Resting e = refl
+idle-answers Waiting e = refl
+idle-answers Opening e = refl
+idle-answers Sending e = refl
+idle-answers stage.Receiving e = absurd (false≢true (sym e))
+
+no-service-away : (p : Progress) → isServing (p .stage) ≡ false → Away p
+no-service-away p e = record { drives = unfold drivesFrame in idle-drives (p .stage) e; answers = unfold isAnswered in idle-answers (p .stage) e }
+
+silent-reply : noReply .going ≡ false
+unfolding noReply
+silent-reply = refl
 
 quiet-not : underWay (quiet .place) ≡ false
 unfolding quiet atPlace underWay isUnderWay
@@ -68,8 +93,8 @@ quiet-not = refl
 
 module _ (l : Log) (k : Core) (a : StandsIn l k) where
   idled-stands : serving (k .service) ≡ false → StandsIn l (idled k)
-  unfolding idled serving inService drivesFrame
-  idled-stands e = record { going = a .going; stage = apart (no-service-apart (k .service .effort .progress .stage) e) quiet-not }
+  unfolding idled serving inService
+  idled-stands e = record { going = a .going; stage = apart (no-service-away (k .service .effort .progress) e) silent-reply quiet-not }
 
   idle-stands : StandsIn l (idleDue k)
   unfolding idleDue
@@ -78,10 +103,10 @@ module _ (l : Log) (k : Core) (a : StandsIn l k) where
 
 -- ---- the choice
 
-chosen-apart : (m : List ℕ) (x : Choice) → drivesFrame (choiceOf m x .effort .progress) ≡ false
+chosen-away : (m : List ℕ) (x : Choice) → Away (choiceOf m x .effort .progress)
 unfolding choiceOf
-chosen-apart m Nothing = resting-apart
-chosen-apart m (Lowest c) = unfold chosen atStage drivesFrame isDriving in refl
+chosen-away m Nothing = resting-away
+chosen-away m (Lowest c) = record { drives = unfold chosen atStage drivesFrame isDriving in refl; answers = unfold chosen atStage isAnswered isAnswering in refl }
 
 chosen-going : (m : List ℕ) (x : Choice) → stopped (choiceOf m x) ≡ Going
 unfolding choiceOf
@@ -94,9 +119,20 @@ free-to-choose true false true e = absurd (false≢true e)
 free-to-choose true false false e = refl
 free-to-choose false b u e = absurd (false≢true e)
 
-chosen-stands : (l : Log) (m : List ℕ) (k : Core) (x : Report) → underWay (k .reception .place) ≡ false → StandsIn l (withService (withReport k x) (choose m (longestOf k)))
+-- with no frame under way there is no reply
+quiet-reply : {longest : ℕ} {e : Effort} {y : ImmediateReply} {r : Reception} {l : Log} → At longest e y r l → underWay (r .place) ≡ false → y .going ≡ false
+quiet-reply (apart d g u) q = g
+quiet-reply (receiving d g f) q = g
+quiet-reply (asking d a g f) q = g
+quiet-reply (starting d g z u) q = g
+quiet-reply (driving d g f p h) q = g
+quiet-reply (closing d g b h) q = g
+quiet-reply {r = r} {l = l} (replying d g o f p i h) q = absurd (false≢true (sym q ∙ invariant-under-way r (l .samples) (f .invariant)))
+quiet-reply (replied d g k h) q = absurd (false≢true (sym q ∙ k .under))
+
+chosen-stands : (l : Log) (m : List ℕ) (k : Core) (x : Report) → k .reply .going ≡ false → underWay (k .reception .place) ≡ false → StandsIn l (withService (withReport k x) (choose m (longestOf k)))
 unfolding choose
-chosen-stands l m k x u = record { going = chosen-going m (lowestReady m (longestOf k)); stage = apart (chosen-apart m (lowestReady m (longestOf k))) u }
+chosen-stands l m k x g u = record { going = chosen-going m (lowestReady m (longestOf k)); stage = apart (chosen-away m (lowestReady m (longestOf k))) g u }
 
 chooses-quiet : (k : Core) → chooses k ≡ true → underWay (k .reception .place) ≡ false
 unfolding chooses
@@ -106,7 +142,7 @@ choice-stands : (l : Log) (m : List ℕ) (k : Core) → StandsIn l k → StandsI
 unfolding choiceMade
 choice-stands l m k a =
     picked (StandsIn l) (chooses k) _ k
-    (λ e. picked (StandsIn l) (serving (choose m (longestOf k))) _ k (λ d. chosen-stands l m k (reportSending (k .report) (choose m (longestOf k))) (chooses-quiet k e)) (λ d. a))
+    (λ e. picked (StandsIn l) (serving (choose m (longestOf k))) _ k (λ d. chosen-stands l m k (reportSending (k .report) (choose m (longestOf k))) (quiet-reply (a .stage) (chooses-quiet k e)) (chooses-quiet k e)) (λ d. a))
     (λ e. a)
 
 -- ---- the start
@@ -117,6 +153,7 @@ waits-between Resting e = absurd (false≢true e)
 waits-between Waiting e = refl
 waits-between Opening e = absurd (false≢true e)
 waits-between Sending e = absurd (false≢true e)
+waits-between stage.Receiving e = absurd (false≢true e)
 
 waits-apart : (p : Stage) → isWaiting p ≡ true → isDriving p ≡ true → ⊥
 unfolding isWaiting isDriving
@@ -124,18 +161,19 @@ waits-apart Resting e d = absurd (false≢true e)
 waits-apart Waiting e d = absurd (false≢true d)
 waits-apart Opening e d = absurd (false≢true e)
 waits-apart Sending e d = absurd (false≢true e)
+waits-apart stage.Receiving e d = absurd (false≢true e)
+
+waits-asks : (p : Stage) → isWaiting p ≡ true → isAnswering p ≡ true → ⊥
+unfolding isWaiting isAnswering
+waits-asks Resting e d = absurd (false≢true e)
+waits-asks Waiting e d = absurd (false≢true d)
+waits-asks Opening e d = absurd (false≢true e)
+waits-asks Sending e d = absurd (false≢true e)
+waits-asks stage.Receiving e d = absurd (false≢true e)
 
 opened-going : (s : Service) (at : ℕ) → waits (s .effort .progress) ≡ true → stopped (opened s at) ≡ stopped s
 unfolding stopped opened atStage betweenAttempts exhausted waits
 opened-going s at e = rw (waits-between (s .effort .progress .stage) e) (unfold isBetween in refl)
-
-body-is : (p : Phase) → isBody p ≡ true → p ≡ Body
-unfolding isBody
-body-is Quiet e = absurd (false≢true e)
-body-is Start e = absurd (false≢true e)
-body-is Body e = refl
-body-is Acknowledge e = absurd (false≢true e)
-body-is End e = absurd (false≢true e)
 
 -- a clean start sequence has just ended
 pub record StartTaken (r : Reception) : Type 0 where
@@ -156,8 +194,12 @@ start-under-way : (r : Reception) → startEnded r ≡ true → underWay (r .pla
 unfolding underWay
 start-under-way r e = rw (start-taken r e .phase) (unfold isUnderWay in refl)
 
-module _ {longest : ℕ} (l : Log) (s : Service) (r : Reception) (a : Stands longest s r l) (w : waits (s .effort .progress) ≡ true) where
-  joins : startEnded r ≡ true → Stands longest (opened s 10) r l
+-- not where a reply goes on
+later-start : (r : Reception) → startEnded r ≡ true → 1 ≤ r .nibbles → ⊥
+later-start r e h = omega (arith, start-taken r e .nibbles)
+
+module _ {longest : ℕ} (l : Log) (s : Service) (y : ImmediateReply) (r : Reception) (a : Stands longest s y r l) (w : waits (s .effort .progress) ≡ true) where
+  joins : startEnded r ≡ true → Stands longest (opened s 10) y r l
   joins e = record { going = opened-going s 10 w ∙ a .going; stage = go (a .stage) }
     where
       placed : Placed (s .effort .frame) 10 r
@@ -166,31 +208,37 @@ module _ {longest : ℕ} (l : Log) (s : Service) (r : Reception) (a : Stands lon
       driven : drivesFrame (s .effort .progress) ≡ true → ⊥
       driven d = unfold waits drivesFrame in waits-apart (s .effort .progress .stage) w d
 
-      go : At longest (s .effort) r l → At longest (opened s 10 .effort) r l
-      go (apart d u) = absurd (false≢true (sym u ∙ start-under-way r e))
-      go (receiving d f) = unfold opened atStage in driving (unfold drivesFrame isDriving in refl) f placed (omega arith)
-      go (starting d z u) = absurd (driven d)
-      go (driving d f p h) = absurd (driven d)
-      go (closing d b h) = absurd (driven d)
+      asked : isAnswered (s .effort .progress) ≡ true → ⊥
+      asked d = unfold waits isAnswered in waits-asks (s .effort .progress .stage) w d
 
-  opens : underWay (r .place) ≡ false → Stands longest (opened s 0) r l
-  opens u = record { going = opened-going s 0 w ∙ a .going; stage = unfold opened atStage in starting (unfold drivesFrame isDriving in refl) refl u }
+      go : At longest (s .effort) y r l → At longest (opened s 10 .effort) y r l
+      go (apart d g u) = absurd (false≢true (sym u ∙ start-under-way r e))
+      go (receiving d g f) = unfold opened atStage in driving (unfold drivesFrame isDriving in refl) g f placed (omega arith)
+      go (asking d i g f) = absurd (asked i)
+      go (starting d g z u) = absurd (driven d)
+      go (driving d g f p h) = absurd (driven d)
+      go (closing d g b h) = absurd (driven d)
+      go (replying d g o f p i h) = absurd (later-start r e (placed-later r p (omega arith) (start-under-way r e) .nibbles))
+      go (replied d g k h) = absurd (later-start r e (k .nibbles))
 
-started-stands : {longest : ℕ} (l : Log) (s : Service) (autonomous : Bool) (line : Line) (r : Reception) → Stands longest s r l → Stands longest (started s autonomous line r) r l
+  opens : underWay (r .place) ≡ false → Stands longest (opened s 0) y r l
+  opens u = record { going = opened-going s 0 w ∙ a .going; stage = unfold opened atStage in starting (unfold drivesFrame isDriving in refl) (quiet-reply (a .stage) u) refl u }
+
+started-stands : {longest : ℕ} (l : Log) (s : Service) (y : ImmediateReply) (autonomous : Bool) (line : Line) (r : Reception) → Stands longest s y r l → Stands longest (started s autonomous line r) y r l
 unfolding started
-started-stands {longest} l s autonomous line r a =
+started-stands {longest} l s y autonomous line r a =
     picked P (waits (s .effort .progress)) _ s
-    (λ w. picked P (startEnded r) (opened s 10) _ (λ e. joins l s r a w e)
+    (λ w. picked P (startEnded r) (opened s 10) _ (λ e. joins l s y r a w e)
     (λ e. picked P (underWay (r .place)) s _ (λ u. a)
-    (λ u. picked P (both autonomous (free line)) (opened s 0) s (λ b. opens l s r a w u) (λ b. a))))
+    (λ u. picked P (both autonomous (free line)) (opened s 0) s (λ b. opens l s y r a w u) (λ b. a))))
     (λ w. a)
   where
     P : Service → Type 0
-    P x = Stands longest x r l
+    P x = Stands longest x y r l
 
 follows-stands : (l : Log) (m : List ℕ) (k : Core) → StandsIn l k → StandsIn l (followsOn m k)
 unfolding followsOn startMade
-follows-stands l m k a = started-stands l _ _ _ _ (choice-stands l m (idleDue k) (idle-stands l k a))
+follows-stands l m k a = started-stands l _ _ _ _ _ (choice-stands l m (idleDue k) (idle-stands l k a))
 
 -- ---- a host write
 
@@ -200,6 +248,7 @@ isGoing Sent = false
 isGoing Exhausted = false
 isGoing Aborted = false
 isGoing Rearbitrated = false
+isGoing Fulfilled = false
 
 ends-between : (s : Service) (x : Ending) → stopped s ≡ x → isGoing x ≡ false → betweenAttempts (s .effort .progress) ≡ true
 ends-between s x e g = go (betweenAttempts (s .effort .progress)) refl
@@ -210,31 +259,33 @@ ends-between s x e g = go (betweenAttempts (s .effort .progress)) refl
         let h : stopped s ≡ Going = unfold stopped in rw d in
         absurd (false≢true (sym g ∙ ap isGoing (sym e ∙ h) ∙ (unfold isGoing in refl)))
 
--- between attempts a service ends, and its frame with it: the model goes on receiving
-given-up : {longest : ℕ} {e : Effort} {r : Reception} {l : Log} → At longest e r l → betweenAttempts (e .progress) ≡ true → At longest (resting .effort) r l
-given-up (apart d u) b = apart resting-apart u
-given-up (receiving d f) b = receiving resting-apart f
-given-up (starting d z u) b = apart resting-apart u
-given-up (driving d f p h) b = receiving resting-apart f
-given-up (closing d n h) b = absurd (false≢true (sym n ∙ b))
+answers-between : (p : Stage) → isAnswering p ≡ true → isBetween p ≡ true → ⊥
+unfolding isAnswering isBetween
+answers-between Resting e b = absurd (false≢true e)
+answers-between Waiting e b = absurd (false≢true e)
+answers-between Opening e b = absurd (false≢true e)
+answers-between Sending e b = absurd (false≢true e)
+answers-between stage.Receiving e b = absurd (false≢true b)
 
-settled-at : {longest : ℕ} (s : Service) {r : Reception} {l : Log} → At longest (s .effort) r l → (x : Ending) → stopped s ≡ x → At longest (settled x s .effort) r l
+-- between attempts a service ends, and its frame with it: the model goes on receiving, or replying
+given-up : {longest : ℕ} {e : Effort} {y : ImmediateReply} {r : Reception} {l : Log} → At longest e y r l → betweenAttempts (e .progress) ≡ true → At longest (resting .effort) y r l
+given-up (apart d g u) b = apart resting-away g u
+given-up (receiving d g f) b = receiving resting-away g f
+given-up {e = e} (asking d a g f) b = absurd (unfold isAnswered betweenAttempts in answers-between (e .progress .stage) a b)
+given-up (starting d g z u) b = apart resting-away g u
+given-up (driving d g f p h) b = receiving resting-away g f
+given-up (closing d g n h) b = absurd (false≢true (sym n ∙ b))
+given-up (replying d g o f p i h) b = replying resting-away g o f p i h
+given-up (replied d g k h) b = replied resting-away g k h
+
+settled-at : {longest : ℕ} (s : Service) {y : ImmediateReply} {r : Reception} {l : Log} → At longest (s .effort) y r l → (x : Ending) → stopped s ≡ x → At longest (settled x s .effort) y r l
 unfolding settled
 settled-at s a Going e = a
 settled-at s a Sent e = given-up a (ends-between s Sent e (unfold isGoing in refl))
 settled-at s a Exhausted e = given-up a (ends-between s Exhausted e (unfold isGoing in refl))
 settled-at s a Aborted e = given-up a (ends-between s Aborted e (unfold isGoing in refl))
 settled-at s a Rearbitrated e = given-up a (ends-between s Rearbitrated e (unfold isGoing in refl))
-
-asked-effort : (s : Service) (a v : ℕ) → serviceAsked s a v .effort ≡ s .effort
-unfolding serviceAsked rearCommanded
-asked-effort s a v =
-    picked P (eqb a command) _ _
-    (λ e. picked P (asksRearbitration v) (rearAsked s) s (λ d. unfold rearAsked in refl) (λ d. refl))
-    (λ e. picked P (aborts s a v) (abortAsked s) s (λ d. unfold abortAsked in refl) (λ d. refl))
-  where
-    P : Service → Type 0
-    P x = x .effort ≡ s .effort
+settled-at s a Fulfilled e = given-up a (ends-between s Fulfilled e (unfold isGoing in refl))
 
 pub written-reception : (k : Core) (a v : ℕ) → coreWritten k a v .reception ≡ k .reception
 unfolding coreWritten modeCommanded idleAsked activated
@@ -247,7 +298,7 @@ written-reception k a v =
     P : Core → Type 0
     P x = x .reception ≡ k .reception
 
-stopped-stands : (l : Log) (k : Core) (s : Service) → At (longestOf k) (s .effort) (k .reception) l → StandsIn l (stoppedCore k s)
+stopped-stands : (l : Log) (k : Core) (s : Service) → At (longestOf k) (s .effort) (k .reply) (k .reception) l → StandsIn l (stoppedCore k s)
 unfolding stoppedCore
 stopped-stands l k s a =
     idle-stands l (withService (withReport k (reportEnded (stopped s) (k .report) s)) (settled (stopped s) s))
@@ -257,10 +308,10 @@ byte-stands : (l : Log) (c : Controller) (a v : ℕ) → StandsIn l (c .core) �
 unfolding byteWritten
 byte-stands l c a v i =
     stopped-stands l (coreWritten (c .core) a v) (serviceAsked (c .core .service) a v)
-    (rw (asked-effort (c .core .service) a v, written-reception (c .core) a v) (i .stage))
+    (rw (effort-asked (c .core .service) a v, written-reply (c .core) a v, written-reception (c .core) a v) (i .stage))
 
-pub apart-stands : {longest : ℕ} (l : Log) → Stands longest resting quiet l
-apart-stands l = record { going = resting-going; stage = apart resting-apart quiet-not }
+pub apart-stands : {longest : ℕ} (l : Log) → Stands longest resting noReply quiet l
+apart-stands l = record { going = resting-going; stage = apart resting-away silent-reply quiet-not }
 
 slept-stands : (l : Log) (k : Core) → StandsIn l (slept k)
 unfolding slept
@@ -282,12 +333,15 @@ pub record Logs (c : Controller) (l : Log) : Type 0 where
   pub empty : underWay (c .core .reception .place) ≡ false → l ≡ noLog
 
 -- with no frame under way the log is empty
-quiet-at : {longest : ℕ} {e : Effort} {r : Reception} {l : Log} (n : Log) → At longest e r l → underWay (r .place) ≡ false → At longest e r n
-quiet-at n (apart d u) q = apart d u
-quiet-at {r = r} {l = l} n (receiving d f) q = absurd (false≢true (sym q ∙ invariant-under-way r (l .samples) (f .invariant)))
-quiet-at n (starting d z u) q = starting d z u
-quiet-at {r = r} {l = l} n (driving d f p h) q = absurd (false≢true (sym q ∙ invariant-under-way r (l .samples) (f .invariant)))
-quiet-at n (closing d b h) q = closing d b h
+quiet-at : {longest : ℕ} {e : Effort} {y : ImmediateReply} {r : Reception} {l : Log} (n : Log) → At longest e y r l → underWay (r .place) ≡ false → At longest e y r n
+quiet-at n (apart d g u) q = apart d g u
+quiet-at {r = r} {l = l} n (receiving d g f) q = absurd (false≢true (sym q ∙ invariant-under-way r (l .samples) (f .invariant)))
+quiet-at {r = r} {l = l} n (asking d a g f) q = absurd (false≢true (sym q ∙ invariant-under-way r (l .samples) (f .invariant)))
+quiet-at n (starting d g z u) q = starting d g z u
+quiet-at {r = r} {l = l} n (driving d g f p h) q = absurd (false≢true (sym q ∙ invariant-under-way r (l .samples) (f .invariant)))
+quiet-at n (closing d g b h) q = closing d g b h
+quiet-at {r = r} {l = l} n (replying d g o f p i h) q = absurd (false≢true (sym q ∙ invariant-under-way r (l .samples) (f .invariant)))
+quiet-at n (replied d g k h) q = absurd (false≢true (sym q ∙ k .under))
 
 logs-as : (c : Controller) (l : Log) → StandsIn l (c .core) → (u : Bool) → underWay (c .core .reception .place) ≡ u → Logs c (pick u l noLog)
 logs-as c l a true e = record { stands = a; empty = λ d. absurd (false≢true (sym d ∙ e)) }
@@ -311,10 +365,11 @@ module _ (c : Controller) (l : Log) (e : Event) where
 own-in : (s : Stand) (t : Tally) → (isAway s ≡ false → Fits capacity (t .frame) × (t .frame .acknowledge ≡ false)) → drivesFrame (serviceIn s t .effort .progress) ≡ true
     → Own capacity (serviceIn s t .effort .frame)
 unfolding serviceIn isAway
-own-in away t g d = absurd (false≢true (sym resting-apart ∙ d))
+own-in away t g d = absurd (false≢true (sym (resting-away .drives) ∙ d))
 own-in between t g d = absurd (false≢true (unfold made atStage drivesFrame isDriving in d))
 own-in (opening start) t g d = let f = g refl in record { most = omega arith; frame = t .frame; fits = f .0; silent = f .1; same = unfold made in refl }
 own-in (inside start levels) t g d = let f = g refl in record { most = omega arith; frame = t .frame; fits = f .0; silent = f .1; same = unfold made in refl }
+own-in (answered start n) t g d = absurd (false≢true (unfold made atStage drivesFrame isDriving in d))
 
 own-of : (c : Controller) (t : Tally) → Joined c t → drivesFrame (c .core .service .effort .progress) ≡ true → Own (longestOf (c .core)) (c .core .service .effort .frame)
 own-of c t j d =
@@ -323,37 +378,32 @@ own-of c t j d =
 
 -- ---- a slot
 
-input-small : (levels input : ℕ) → inputLevel levels input < 2
-unfolding inputLevel
-input-small levels input =
-    picked (λ (x : ℕ). x < 2) (eqb input 1) (levels / 2 % 2) _ (λ e. omega arith)
-    (λ e. picked (λ (x : ℕ). x < 2) (eqb input 2) (levels / 4 % 2) (levels % 2) (λ d. omega arith) (λ d. omega arith))
+module _ (c : Controller) (t : Tally) (l : Log) (i : Logs c l) (j : Joined c t) (below : (e : Event) → Below 256 (next c e .memory)) where
+  never-own : (h : Hearing) → drivesFrame (c .core .service .effort .progress) ≡ true → fulfils (delivers (roleIn (c .core)) h (c .core .reception)) (c .core .reception) (c .core .service) ≡ false
+  never-own h d = rw (role-sender (c .core .service .effort .progress) (c .core .reply .going) (c .core .reception .place) d) (unfold delivers fulfils in refl)
 
-pub sample-small : (c : Controller) (levels : ℕ) → sampleOf c levels < 2
-unfolding sampleOf sampled inverted
-sample-small c levels =
-    let i : ℕ = inputLevel levels (selectedInput (getD (c .memory) diagnosisControl 0)) in
-    picked (λ (x : ℕ). x < 2) (invertsReceive (getD (c .memory) lineControl 0)) (1 - i % 2) i (λ e. omega arith) (λ e. input-small levels (selectedInput (getD (c .memory) diagnosisControl 0)))
+  judged-logs : (v : ℕ) → v < 2 → (m : List ℕ) → Below 256 m
+      → StandsIn (sampledLog l v m) (coreJudged m (c .core) (verdict (c .core) v) (replyVerdict (roleIn (c .core)) (c .core) v) (heard (c .core) (verdict (c .core) v) v) v)
+  unfolding coreJudged ending settledBy verdict heard
+  judged-logs v small m b =
+      sampled-stands (c .core) l v small m b _ (never-own (heardAs (roleIn (c .core)) (c .core) (verdictAs (roleIn (c .core)) (c .core) v) v)) (own-of c t j) (i .empty) (i .stands .stage)
 
-module _ (c : Controller) (t : Tally) (l : Log) (i : Logs c l) (j : Joined c t) where
-  judged-logs : (v : ℕ) → v < 2 → (m : List ℕ)
-      → StandsIn (sampledLog l v m) (coreJudged m (c .core) (judge (c .core .service .effort) v) (heard (c .core) (judge (c .core .service .effort) v) v) v)
-  unfolding coreJudged ending settledAfter
-  judged-logs v small m = sampled-stands (c .core) l v small m (own-of c t j) (i .empty) (i .stands .stage)
-
-  sampled-logs : (v : ℕ) → v < 2 → StandsIn (sampledLog l v (sampledSlot c v .memory)) (sampledSlot c v .core)
+  sampled-logs : (v : ℕ) → v < 2 → Below 256 (sampledSlot c v .memory) → StandsIn (sampledLog l v (sampledSlot c v .memory)) (sampledSlot c v .core)
   unfolding sampledSlot judgedSlot
-  sampled-logs v small =
-      let m : List ℕ = memoryJudged (c .memory) (c .core) (judge (c .core .service .effort) v) (heard (c .core) (judge (c .core .service .effort) v) v) in
-      follows-stands (sampledLog l v m) m (coreJudged m (c .core) (judge (c .core .service .effort) v) (heard (c .core) (judge (c .core .service .effort) v) v) v) (judged-logs v small m)
+  sampled-logs v small b =
+      let w : Verdict = verdict (c .core) v in
+      let q : Verdict = replyVerdict (roleIn (c .core)) (c .core) v in
+      let h : Hearing = heard (c .core) w v in
+      let m : List ℕ = memoryJudged (c .memory) (c .core) w q h in
+      follows-stands (sampledLog l v m) m (coreJudged m (c .core) w q h v) (judged-logs v small m b)
 
-  slot-logs : (levels : ℕ) → isActive (c .core .activity .mode) ≡ true → step c (Slot levels) ≡ answered (activeSlot c levels) → Logs (next c (Slot levels)) (logNext c l (Slot levels))
-  unfolding answered activeSlot logIn
+  slot-logs : (levels : ℕ) → isActive (c .core .activity .mode) ≡ true → step c (Slot levels) ≡ run.answered (activeSlot c levels) → Logs (next c (Slot levels)) (logNext c l (Slot levels))
+  unfolding run.answered activeSlot logIn
   slot-logs levels a h =
       let v : ℕ = sampleOf c levels in
       let n : next c (Slot levels) ≡ sampledSlot c v = accepted-next c t (Slot levels) _ (activeSlot c levels) h in
       let y : accepted c (Slot levels) ≡ true = is-accepted c l (Slot levels) _ (activeSlot c levels) h in
-      logs-next c l (Slot levels) {n = sampledLog l v (sampledSlot c v .memory)} (rw n (sampled-logs v (sample-small c levels))) (rw (y, a, n))
+      logs-next c l (Slot levels) {n = sampledLog l v (sampledSlot c v .memory)} (rw n (sampled-logs v (sample-small c levels) (subst (λ (x : Controller). Below 256 (x .memory)) n (below (Slot levels))))) (rw (y, a, n))
 
   pub next-logs : (e : Event) → Step c e → Logs (next c e) (logNext c l e)
   next-logs e (refusal n h) =

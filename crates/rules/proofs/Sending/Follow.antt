@@ -14,11 +14,11 @@ use Rattle.rules.specs.Definitions.Channels.{lowestReady, acknowledgeAsk
 use Rattle.rules.specs.Definitions.Reception.{free, underWay, unsettled}
 use Rattle.rules.specs.Definitions.Delivery.{receiveError, reportStored, reportHeard, reportDelivered}
 use Rattle.rules.specs.Definitions.Attempt.{inService, isServing, atStage}
-use Rattle.rules.specs.Definitions.Service.{resting, stopped, settled, reportSending, reportJudged, reportEnded, chosen, choiceOf, choose, started}
+use Rattle.rules.specs.Definitions.Service.{resting, stopped, settled, reportSending, reportJudged, reportEnded, reportReplied, chosen, choiceOf, choose, started}
 use Rattle.rules.specs.Definitions.State.{isActive, inMode, serving, idled, idleDue, idleAsked, activated}
 use Rattle.rules.specs.Definitions.Slots.{roleIn, delivers, serviceJudged, ending, reportAfter, chooses, choiceMade, startMade, followsOn}
 use Rattle.rules.specs.Definitions.Host.{modeCommanded, flagsCleared, coreWritten, stoppedCore}
-use Rattle.rules.specs.Statements.Tally.{Stand, away, between, opening, inside, Tally, choiceT, chooseIn, chooseT, startT}
+use Rattle.rules.specs.Statements.Tally.{Stand, away, between, opening, inside, answered, Tally, choiceT, chooseIn, chooseT, startT}
 use Rattle.rules.proofs.Sending.Join.{made, serviceIn, serviceOf, choose-is, started-is}
 use Rattle.rules.specs.declared.Report.{Report}
 use Rattle.rules.specs.declared.Choice.{Choice}
@@ -30,9 +30,9 @@ use Rattle.rules.specs.declared.Delivery.{Delivery}
 use Rattle.rules.specs.declared.Delivery.the-variants as delivery
 use Rattle.rules.specs.declared.Service.{Service}
 use Rattle.rules.specs.declared.Verdict.{Verdict}
-use Rattle.rules.specs.declared.Verdict.the-variants.{Unjudged, Goes, Lost, Failed, Done}
+use Rattle.rules.specs.declared.Verdict.the-variants.{Unjudged, Goes, Lost, Failed, Done, Answered}
 use Rattle.rules.specs.declared.Ending.{Ending}
-use Rattle.rules.specs.declared.Ending.the-variants.{Going, Sent, Exhausted, Aborted, Rearbitrated}
+use Rattle.rules.specs.declared.Ending.the-variants.{Going, Sent, Exhausted, Aborted, Rearbitrated, Fulfilled}
 use Rattle.rules.specs.declared.Mode.the-variants.{Active}
 use Rattle.rules.specs.declared.Core.{Core}
 
@@ -69,6 +69,9 @@ module _ (m : List ℕ) (k : Core) where
 
   pub choice-reception : choiceMade m k .reception ≡ k .reception
   choice-reception = choice-leaves (λ x. x .reception) (unfold chosenCore in refl)
+
+  pub choice-reply : choiceMade m k .reply ≡ k .reply
+  choice-reply = choice-leaves (λ x. x .reply) (unfold chosenCore in refl)
 
   pub choice-flags : choiceMade m k .report .flags ≡ k .report .flags
   choice-flags = choice-leaves (λ x. x .report .flags) (unfold chosenCore reportSending in refl)
@@ -119,6 +122,7 @@ module _ (m : List ℕ) (k : Core) where
   choice-service-in between t e d = unfold chooseIn in (busy-service (rw d (unfold serviceIn made serving inService isServing atStage in refl)) ∙ d ∙ unfold serviceOf in ap (λ (x : Stand). serviceIn x t) (sym e))
   choice-service-in (opening start) t e d = unfold chooseIn in (busy-service (rw d (unfold serviceIn made serving inService isServing atStage in refl)) ∙ d ∙ unfold serviceOf in ap (λ (x : Stand). serviceIn x t) (sym e))
   choice-service-in (inside start levels) t e d = unfold chooseIn in (busy-service (rw d (unfold serviceIn made serving inService isServing atStage in refl)) ∙ d ∙ unfold serviceOf in ap (λ (x : Stand). serviceIn x t) (sym e))
+  choice-service-in (answered start n) t e d = unfold chooseIn in (busy-service (rw d (unfold serviceIn made serving inService isServing atStage in refl)) ∙ d ∙ unfold serviceOf in ap (λ (x : Stand). serviceIn x t) (sym e))
 
   pub choice-service : (t : Tally) → k .service ≡ serviceOf t → choiceMade m k .service ≡ serviceOf (chooseT t m (longestOf k) (isActive (k .activity .mode)) (k .reception))
   unfolding serviceOf chooseT
@@ -132,6 +136,7 @@ isExhausted Sent = false
 isExhausted Exhausted = true
 isExhausted Aborted = false
 isExhausted Rearbitrated = false
+isExhausted Fulfilled = false
 
 te-ended : (x : Ending) (r : Report) (s : Service) → reportEnded x r s .flags .te ≡ pick (isExhausted x) true (r .flags .te)
 unfolding reportEnded isExhausted
@@ -140,6 +145,7 @@ te-ended Sent r s = refl
 te-ended Exhausted r s = refl
 te-ended Aborted r s = refl
 te-ended Rearbitrated r s = refl
+te-ended Fulfilled r s = refl
 
 te-verdict : (w : Verdict) (r : Report) (s : Service) → reportJudged w r s .flags .te ≡ r .flags .te
 unfolding reportJudged reportSending
@@ -148,6 +154,16 @@ te-verdict Goes r s = refl
 te-verdict Lost r s = refl
 te-verdict (Failed code) r s = refl
 te-verdict Done r s = refl
+te-verdict Answered r s = refl
+
+te-replied : (q : Verdict) (r : Report) (c : ℕ) → reportReplied q r c .flags .te ≡ r .flags .te
+unfolding reportReplied
+te-replied Unjudged r c = refl
+te-replied Goes r c = refl
+te-replied Lost r c = refl
+te-replied (Failed code) r c = refl
+te-replied Done r c = refl
+te-replied Answered r c = refl
 
 te-stored : (r : Report) (asked : Bool) (channel : ℕ) → reportStored r asked channel .flags .te ≡ r .flags .te
 unfolding reportStored
@@ -168,11 +184,12 @@ te-heard Follows r = refl
 te-heard (Fault code) r = refl
 te-heard Good r = refl
 
-pub te-judged : (k : Core) (w : Verdict) (h : Hearing) → reportAfter k w h .flags .te ≡ pick (isExhausted (ending k w)) true (k .report .flags .te)
+pub te-judged : (k : Core) (w q : Verdict) (h : Hearing) → reportAfter k w q h .flags .te ≡ pick (isExhausted (ending k w h)) true (k .report .flags .te)
 unfolding reportAfter
-te-judged k w h =
-    te-ended (ending k w) (reportJudged w (reportDelivered (delivers (roleIn k) h (k .reception)) (reportHeard h (k .report)) (k .reception)) (serviceJudged w (k .service))) (serviceJudged w (k .service))
-    ∙ ap (λ (b : Bool). pick (isExhausted (ending k w)) true b)
+te-judged k w q h =
+    te-replied q (reportEnded (ending k w h) (reportJudged w (reportDelivered (delivers (roleIn k) h (k .reception)) (reportHeard h (k .report)) (k .reception)) (serviceJudged w (k .service))) (serviceJudged w (k .service))) (k .reply .channel)
+    ∙ te-ended (ending k w h) (reportJudged w (reportDelivered (delivers (roleIn k) h (k .reception)) (reportHeard h (k .report)) (k .reception)) (serviceJudged w (k .service))) (serviceJudged w (k .service))
+    ∙ ap (λ (b : Bool). pick (isExhausted (ending k w h)) true b)
     (te-verdict w (reportDelivered (delivers (roleIn k) h (k .reception)) (reportHeard h (k .report)) (k .reception)) (serviceJudged w (k .service))
     ∙ te-delivered (delivers (roleIn k) h (k .reception)) (reportHeard h (k .report)) (k .reception)
     ∙ te-heard h (k .report))
@@ -191,6 +208,10 @@ module _ (m : List ℕ) (k : Core) where
   pub follows-reception : followsOn m k .reception ≡ idleDue k .reception
   unfolding followsOn startMade
   follows-reception = choice-reception m (idleDue k)
+
+  pub follows-reply : followsOn m k .reply ≡ idleDue k .reply
+  unfolding followsOn startMade
+  follows-reply = choice-reply m (idleDue k)
 
   pub follows-te : followsOn m k .report .flags .te ≡ k .report .flags .te
   unfolding followsOn startMade

@@ -16,17 +16,18 @@ use Rattle.line.specs.declared.Half.{Half}
 use Rattle.line.specs.declared.Half.the-variants.{Plain, First, Second}
 use Rattle.rules.specs.Definitions.Registers.{both, CV, ACKE, FCSE, command, transmitControl, autonomous, asksRearbitration}
 use Rattle.rules.specs.Definitions.Channels.{acknowledgeAsked, base, cher}
-use Rattle.rules.specs.Definitions.Mailbox.{coded, codedBytes}
+use Rattle.rules.specs.Definitions.Mailbox.{asksReply, coded, codedBytes}
 use Rattle.rules.specs.Definitions.Reception.{free, underWay, startEnded}
 use Rattle.rules.specs.Definitions.Attempt as attempt
-use Rattle.rules.specs.Definitions.Attempt.{largest, moreSlots, moreAttempts, noCounts, atStage, inService, isServing, betweenAttempts, isBetween, waits, isWaiting, drivesFrame, isDriving, levelAt, due, openHalf, arbitrated, inCheck, inAcknowledge, differenceIn, difference, judgeSlot, judge, slotSpent, lostSpent, errorSpent, advance, exhausted}
+use Rattle.rules.specs.Definitions.Attempt.{rtrSlot, isRequest, largest, moreSlots, moreAttempts, noCounts, atStage, inService, isServing, betweenAttempts, isBetween, waits, isWaiting, drivesFrame, isDriving, levelAt, due, openHalf, arbitrated, inCheck, inAcknowledge, differenceIn, difference, judgeSlot, judge, slotSpent, lostSpent, errorSpent, advance, exhausted}
 use Rattle.rules.specs.Definitions.Service.{resting, stopped, endingOf, settled, chosen, choiceOf, opened, started, abortAsked, rearAsked, aborts}
 use Rattle.rules.specs.Definitions.Slots.{serviceJudged}
 use Rattle.rules.specs.Definitions.Host.{rearCommanded, serviceAsked}
+use Rattle.rules.proofs.Judged as judged
 use Rattle.rules.proofs.Judged.{Judged, went, lost, broke, done, slot-judged}
 use Rattle.rules.proofs.Roles.{judge-driving}
 use Rattle.rules.specs.Statements.Tally as tally
-use Rattle.rules.specs.Statements.Tally.{Stand, away, between, opening, inside, Tally, none, goes, contended, failed, sent, asksAcknowledge, dueLevel, verdict, spentT, judgedAs, countedIn, countedT, givenUp, endedIn, endedT, chosenT, choiceT, startIn, startT, isAway, asks, askedIn, askedT, openHalfT, arbitratedT}
+use Rattle.rules.specs.Statements.Tally.{Stand, away, between, opening, inside, answered, Tally, none, goes, contended, failed, sent, answers, Reply, comes, taken, wasted, requestT, repliedAs, asksAcknowledge, dueLevel, verdict, spentT, judgedAs, countedIn, countedT, givenUp, endedIn, endedT, chosenT, choiceT, startIn, startT, isAway, asks, askedIn, askedT, openHalfT, arbitratedT}
 use Rattle.rules.specs.declared.Choice.{Choice}
 use Rattle.rules.specs.declared.Choice.the-variants.{Nothing, Lowest}
 use Rattle.rules.specs.declared.Line.{Line}
@@ -35,11 +36,11 @@ use Rattle.rules.specs.declared.Timeslots.{Timeslots}
 use Rattle.rules.specs.declared.Attempts.{Attempts}
 use Rattle.rules.specs.declared.Coded.{Coded}
 use Rattle.rules.specs.declared.Stage.{Stage}
-use Rattle.rules.specs.declared.Stage.the-variants.{Waiting, Opening, Sending}
+use Rattle.rules.specs.declared.Stage.the-variants.{Waiting, Opening, Sending, Receiving}
 use Rattle.rules.specs.declared.Counters.{Counters}
 use Rattle.rules.specs.declared.Service.{Service}
 use Rattle.rules.specs.declared.Verdict.{Verdict}
-use Rattle.rules.specs.declared.Verdict.the-variants.{Unjudged, Goes, Lost, Failed, Done}
+use Rattle.rules.specs.declared.Verdict.the-variants.{Unjudged, Goes, Lost, Failed, Done, Answered}
 use Rattle.rules.specs.declared.Ending.{Ending}
 use Rattle.rules.specs.declared.Ending.the-variants.{Going, Exhausted, Aborted, Rearbitrated}
 
@@ -67,6 +68,7 @@ serviceIn away t = resting
 serviceIn between t = made t Waiting 0
 serviceIn (opening start) t = made t Opening start
 serviceIn (inside start levels) t = made t Sending (start + length levels)
+serviceIn (answered start n) t = made t Receiving 0
 
 unfoldable pub serviceOf : Tally → Service
 serviceOf t = serviceIn (t .stand) t
@@ -79,6 +81,7 @@ kind Goes = goes
 kind Lost = contended
 kind (Failed code) = failed
 kind Done = sent
+kind Answered = answers
 
 difference-kind : (p : Part) (o : Bool) → kind (differenceIn p o) ≡ pick (both o (arbitrated p)) contended failed
 unfolding differenceIn
@@ -117,17 +120,22 @@ pub due-same : (f : Frame) (k : ℕ) → due (coded f) k ≡ dueLevel f k (level
 unfolding due dueLevel coded
 due-same f k = rw (asks-same f)
 
+pub request-same : (f : Frame) → isRequest (coded f) ≡ requestT f
+unfolding isRequest asksReply requestT coded codedBytes
+request-same f = let e : (f .identifier % 16 * 16 + f .command) % 4 ≡ f .command % 4 = omega arith in rw e
+
 -- driven and sampled levels are judged alike
 pub kind-same : (f : Frame) (k v : ℕ) → kind (judgeSlot (coded f) k v) ≡ verdict f k (levelAt (coded f) k) v
 unfolding judgeSlot verdict coded
 kind-same f k v =
-    rw (due-same f k) (go (eqb v (dueLevel f k (levelAt (coded f) k))) (ltb (k + 1) (size (length (f .bytes)))))
+    rw (due-same f k, request-same f) (go (eqb v (dueLevel f k (levelAt (coded f) k))) (ltb (k + 1) (size (length (f .bytes)))) (both (eqb k rtrSlot) (requestT f)))
   where
-    go : (a b : Bool) → kind (pick a (pick b Goes Done) (difference (length (f .bytes)) k (levelAt (coded f) k)))
-        ≡ pick a (pick b goes sent) (pick (both (both (eqb (levelAt (coded f) k) 1) (openHalfT (halfOf (length (f .bytes)) k))) (arbitratedT (partOf (length (f .bytes)) k))) contended failed)
-    go true true = unfold kind in refl
-    go true false = unfold kind in refl
-    go false b =
+    go : (a b r : Bool) → kind (pick a (pick b Goes Done) (pick r Answered (difference (length (f .bytes)) k (levelAt (coded f) k))))
+        ≡ pick a (pick b goes sent) (pick r answers (pick (both (both (eqb (levelAt (coded f) k) 1) (openHalfT (halfOf (length (f .bytes)) k))) (arbitratedT (partOf (length (f .bytes)) k))) contended failed))
+    go true true r = unfold kind in refl
+    go true false r = unfold kind in refl
+    go false b true = unfold kind in refl
+    go false b false =
         unfold difference in
         rw (← (open-same (halfOf (length (f .bytes)) k)), ← (arbitrated-same (partOf (length (f .bytes)) k)))
         (difference-kind (partOf (length (f .bytes)) k) (both (eqb (levelAt (coded f) k) 1) (openHalf (halfOf (length (f .bytes)) k))))
@@ -184,6 +192,12 @@ module _ (t : Tally) (stage : Stage) (k start : ℕ) (levels : List ℕ) where
       let c = spent-error t between in
       λ i. record { channel = t .channel; abort = t .abort; rear = t .rear; effort = record { frame = coded (t .frame); setting = t .setting; progress = atStage Waiting 0; counters = c i } }
 
+  pub was-answered : serviceJudged Answered (made t stage k) ≡ serviceOf (judgedAs answers t start levels)
+  unfolding serviceJudged advance made serviceOf serviceIn judgedAs spentT
+  was-answered =
+      let c = spent-slot t (answered start (length levels)) in
+      λ i. record { channel = t .channel; abort = t .abort; rear = t .rear; effort = record { frame = coded (t .frame); setting = t .setting; progress = atStage Receiving 0; counters = c i } }
+
 -- ---- the end of a service
 
 pub small : (x : ℕ) → x ≤ 16 → min x largest ≡ x
@@ -213,6 +227,7 @@ settled-in away t e h = unfold settled stopped serviceIn resting atStage between
 settled-in between t e h = unfold serviceIn in give-up t Waiting 0 (unfold isBetween in refl) h (unfold serviceOf serviceIn in rw e)
 settled-in (opening start) t e h = unfold serviceIn in give-up t Opening start (unfold isBetween in refl) h (unfold serviceOf serviceIn in rw e)
 settled-in (inside start levels) t e h = unfold settled stopped serviceIn made atStage betweenAttempts isBetween serviceOf in rw e
+settled-in (answered start n) t e h = unfold settled stopped serviceIn made atStage betweenAttempts isBetween serviceOf in rw e
 
 pub settled-is : (t : Tally) → t .errors ≤ 16 → settled (stopped (serviceOf t)) (serviceOf t) ≡ serviceOf (endedT t)
 unfolding serviceOf endedT
@@ -226,6 +241,7 @@ settle-judged (went a b) t stage k start levels e h = rw (gone-on t stage k star
 settle-judged (lost a b c) t stage k start levels e h = rw (was-lost t stage k start levels) (settled-is (judgedAs contended t start levels) (unfold judgedAs spentT in omega arith))
 settle-judged (broke code c) t stage k start levels e h = rw (has-failed t stage k start levels code) (settled-is (judgedAs failed t start levels) (unfold judgedAs spentT in omega arith))
 settle-judged done t stage k start levels e h = unfold settled serviceOf serviceIn endedT endedIn judgedAs spentT none in refl
+settle-judged (judged.answered a b c) t stage k start levels e h = rw (was-answered t stage k start levels) (settled-is (judgedAs answers t start levels) (unfold judgedAs spentT in omega arith))
 
 -- ---- a slot's sample
 
@@ -235,55 +251,85 @@ drivenIn away t = 1
 drivenIn between t = 1
 drivenIn (opening start) t = levelAt (coded (t .frame)) start
 drivenIn (inside start levels) t = levelAt (coded (t .frame)) (start + length levels)
+drivenIn (answered start n) t = 1
 
 pub last-level : (start : ℕ) (levels : List ℕ) (d : ℕ) → start + length levels + 1 ≡ start + length (levels ++ (d ∷ []))
 last-level start levels d = let l = length-append levels (d ∷ []) in omega arith
 
-abbrev settledAfter : Service → ℕ → Service
-settledAfter s v = settled (endingOf (judge (s .effort) v) (serviceJudged (judge (s .effort) v) s)) (serviceJudged (judge (s .effort) v) s)
+abbrev pub settledAfter : Verdict → Service → Service
+settledAfter w s = settled (endingOf w (serviceJudged w s)) (serviceJudged w s)
 
-unfoldable pub isBetweenStand : Stand → Bool
-isBetweenStand away = false
-isBetweenStand between = true
-isBetweenStand (opening start) = false
-isBetweenStand (inside start levels) = false
+-- an attempt drives in this slot
+unfoldable pub attempting : Stand → Bool
+attempting away = false
+attempting between = false
+attempting (opening start) = true
+attempting (inside start levels) = true
+attempting (answered start n) = false
 
-settled-away : (t : Tally) (v : ℕ) → t .stand ≡ away → settledAfter (serviceIn away t) v ≡ serviceOf (endedT t)
-unfolding settled endingOf judge serviceJudged advance serviceIn resting atStage drivesFrame isDriving stopped betweenAttempts isBetween endedT serviceOf endedIn none
-settled-away t v e = rw e
+-- the verdict of an answered attempt, and what the tally takes it for
+pub data Replies : Verdict → Reply → Type 0 where
+  on : Replies Answered comes
+  off : (code : ℕ) → Replies (Failed code) wasted
+  well : Replies Done taken
 
-settled-between : (t : Tally) (v : ℕ) → t .stand ≡ between → t .errors ≤ 15 → settledAfter (serviceIn between t) v ≡ serviceOf (endedT t)
-unfolding endingOf judge serviceJudged advance serviceIn made atStage drivesFrame isDriving endedT
-settled-between t v e h = settled-in between t e (omega arith) ∙ ap (λ (s : Stand). serviceOf (endedIn s t)) (sym e)
+-- what a sample is for the attempt, where the tally stands so
+abbrev pub JudgedIn : Stand → Tally → ℕ → Reply → Verdict → Type 0
+JudgedIn away t v y w = w ≡ Unjudged
+JudgedIn between t v y w = w ≡ Unjudged
+JudgedIn (opening start) t v y w = w ≡ judgeSlot (coded (t .frame)) start v
+JudgedIn (inside start levels) t v y w = w ≡ judgeSlot (coded (t .frame)) (start + length levels) v
+JudgedIn (answered start n) t v y w = Replies w y
 
-pub made-driving : (t : Tally) (stage : Stage) (k v : ℕ) → isDriving stage ≡ true → judge (made t stage k .effort) v ≡ judgeSlot (coded (t .frame)) k v
-unfolding made drivesFrame atStage
-made-driving t stage k v e = judge-driving (made t stage k .effort) v e
+settled-away : (t : Tally) → t .stand ≡ away → settledAfter Unjudged (serviceIn away t) ≡ serviceOf (endedT t)
+unfolding settled endingOf serviceJudged advance serviceIn resting atStage stopped betweenAttempts isBetween endedT serviceOf endedIn none
+settled-away t e = rw e
+
+settled-between : (t : Tally) → t .stand ≡ between → t .errors ≤ 15 → settledAfter Unjudged (serviceIn between t) ≡ serviceOf (endedT t)
+unfolding endingOf serviceJudged advance serviceIn endedT
+settled-between t e h = settled-in between t e (omega arith) ∙ ap (λ (s : Stand). serviceOf (endedIn s t)) (sym e)
 
 -- in an attempt, with slot k driven
-in-attempt : (t : Tally) (stage : Stage) (k start : ℕ) (levels : List ℕ) (v : ℕ) → isDriving stage ≡ true → k + 1 ≡ start + length levels → t .errors ≤ 15
-    → settledAfter (made t stage k) v ≡ serviceOf (endedT (judgedAs (verdict (t .frame) k (levelAt (coded (t .frame)) k) v) t start levels))
-in-attempt t stage k start levels v b e h =
-    ap (λ (w : Verdict). settled (endingOf w (serviceJudged w (made t stage k))) (serviceJudged w (made t stage k))) (made-driving t stage k v b)
-    ∙ settle-judged (slot-judged (coded (t .frame)) k v) t stage k start levels e h
+in-attempt : (t : Tally) (stage : Stage) (k start : ℕ) (levels : List ℕ) (v : ℕ) → k + 1 ≡ start + length levels → t .errors ≤ 15
+    → settledAfter (judgeSlot (coded (t .frame)) k v) (made t stage k) ≡ serviceOf (endedT (judgedAs (verdict (t .frame) k (levelAt (coded (t .frame)) k) v) t start levels))
+in-attempt t stage k start levels v e h =
+    settle-judged (slot-judged (coded (t .frame)) k v) t stage k start levels e h
     ∙ ap (λ (x : tally.Verdict). serviceOf (endedT (judgedAs x t start levels))) (kind-same (t .frame) k v)
 
-slot-settled-in : (s : Stand) (t : Tally) (d v : ℕ) → t .stand ≡ s → (isAway s ≡ false → isBetweenStand s ≡ false → d ≡ drivenIn s t) → t .errors ≤ 15
-    → settledAfter (serviceIn s t) v ≡ serviceOf (endedT (countedIn s t d v))
-unfolding countedIn drivenIn isAway isBetweenStand
-slot-settled-in away t d v e q h = settled-away t v e
-slot-settled-in between t d v e q h = settled-between t v e h
-slot-settled-in (opening start) t d v e q h =
-    rw (q refl refl) (unfold serviceIn in in-attempt t Opening start start (levelAt (coded (t .frame)) start ∷ []) v (unfold isDriving in refl) (omega arith) h)
-slot-settled-in (inside start levels) t d v e q h =
-    rw (q refl refl)
-    (unfold serviceIn in in-attempt t Sending (start + length levels) start (levels ++ (levelAt (coded (t .frame)) (start + length levels) ∷ [])) v (unfold isDriving in refl) (last-level start levels (levelAt (coded (t .frame)) (start + length levels))) h)
+-- in one that is answered
+pub answered-on : (t : Tally) (start n : ℕ) → serviceJudged Answered (made t Receiving 0) ≡ serviceOf (repliedAs comes t start n)
+unfolding serviceJudged advance made serviceOf serviceIn repliedAs spentT
+answered-on t start n =
+    let c = spent-slot t (answered start (n + 1)) in
+    λ i. record { channel = t .channel; abort = t .abort; rear = t .rear; effort = record { frame = coded (t .frame); setting = t .setting; progress = atStage Receiving 0; counters = c i } }
+
+pub answered-off : (t : Tally) (start n code : ℕ) → serviceJudged (Failed code) (made t Receiving 0) ≡ serviceOf (repliedAs wasted t start n)
+unfolding repliedAs
+answered-off t start n code = has-failed t Receiving 0 start [] code ∙ unfold judgedAs in refl
+
+settle-replied : {w : Verdict} {y : Reply} → Replies w y → (t : Tally) (start n : ℕ) → t .errors ≤ 15 → settledAfter w (made t Receiving 0) ≡ serviceOf (endedT (repliedAs y t start n))
+unfolding endingOf
+settle-replied on t start n h = rw (answered-on t start n) (settled-is (repliedAs comes t start n) (unfold repliedAs spentT in omega arith))
+settle-replied (off code) t start n h = rw (answered-off t start n code) (settled-is (repliedAs wasted t start n) (unfold repliedAs spentT in omega arith))
+settle-replied well t start n h = unfold settled serviceOf serviceIn endedT endedIn repliedAs spentT none in refl
+
+slot-settled-in : (s : Stand) (t : Tally) (d v : ℕ) (y : Reply) (w : Verdict) → t .stand ≡ s → JudgedIn s t v y w → (attempting s ≡ true → d ≡ drivenIn s t) → t .errors ≤ 15
+    → settledAfter w (serviceIn s t) ≡ serviceOf (endedT (countedIn s t d v y))
+unfolding countedIn drivenIn attempting
+slot-settled-in away t d v y w e j q h = rw j (settled-away t e)
+slot-settled-in between t d v y w e j q h = rw j (settled-between t e h)
+slot-settled-in (opening start) t d v y w e j q h =
+    rw (j, q refl) (unfold serviceIn in in-attempt t Opening start start (levelAt (coded (t .frame)) start ∷ []) v (omega arith) h)
+slot-settled-in (inside start levels) t d v y w e j q h =
+    rw (j, q refl)
+    (unfold serviceIn in in-attempt t Sending (start + length levels) start (levels ++ (levelAt (coded (t .frame)) (start + length levels) ∷ [])) v (last-level start levels (levelAt (coded (t .frame)) (start + length levels))) h)
+slot-settled-in (answered start n) t d v y w e j q h = unfold serviceIn in settle-replied j t start n h
 
 -- the service after a sample is that of the tally after it
-pub slot-settled : (t : Tally) (d v : ℕ) → (isAway (t .stand) ≡ false → isBetweenStand (t .stand) ≡ false → d ≡ drivenIn (t .stand) t) → t .errors ≤ 15
-    → settledAfter (serviceOf t) v ≡ serviceOf (endedT (countedT t d v))
+pub slot-settled : (s : Service) (t : Tally) (d v : ℕ) (y : Reply) (w : Verdict) → s ≡ serviceOf t → JudgedIn (t .stand) t v y w → (attempting (t .stand) ≡ true → d ≡ drivenIn (t .stand) t) → t .errors ≤ 15
+    → settledAfter w s ≡ serviceOf (endedT (countedT t d v y))
 unfolding serviceOf countedT
-slot-settled t d v q h = slot-settled-in (t .stand) t d v refl q h
+slot-settled s t d v y w e j q h = rw e (slot-settled-in (t .stand) t d v y w refl j q h)
 
 -- ---- choice and start
 
@@ -321,6 +367,7 @@ module _ (m : List ℕ) (l : Line) (r : Reception) where
       start-go t (between-is t e) (startEnded r) (underWay (r .place)) (both (autonomous (getD m transmitControl 0)) (free l))
   started-in (opening start) t e = unfold serviceOf serviceIn made atStage waits isWaiting in rw e
   started-in (inside start levels) t e = unfold serviceOf serviceIn made atStage waits isWaiting in rw e
+  started-in (answered start n) t e = unfold serviceOf serviceIn made atStage waits isWaiting in rw e
 
   pub started-is : (t : Tally) → started (serviceOf t) (autonomous (getD m transmitControl 0)) l r ≡ serviceOf (startT t m (free l) r)
   unfolding serviceOf startT
@@ -373,6 +420,7 @@ asked-in away t e address v = unfold serviceIn in (asked-away address v ∙ ap (
 asked-in between t e address v = unfold serviceIn in asked-made t Waiting 0 (unfold isServing in refl) (λ a r. unfold serviceOf serviceIn in rw e) address v
 asked-in (opening start) t e address v = unfold serviceIn in asked-made t Opening start (unfold isServing in refl) (λ a r. unfold serviceOf serviceIn in rw e) address v
 asked-in (inside start levels) t e address v = unfold serviceIn in asked-made t Sending (start + length levels) (unfold isServing in refl) (λ a r. unfold serviceOf serviceIn in rw e) address v
+asked-in (answered start n) t e address v = unfold serviceIn in asked-made t Receiving 0 (unfold isServing in refl) (λ a r. unfold serviceOf serviceIn in rw e) address v
 
 pub asked-is : (t : Tally) (address v : ℕ) → serviceAsked (serviceOf t) address v ≡ serviceOf (askedT t address v)
 unfolding serviceOf askedT

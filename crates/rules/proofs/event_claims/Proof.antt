@@ -1,4 +1,4 @@
-use Rattle.rules.proofs.Observer.Settled.{settled-over}
+use Rattle.rules.proofs.Observer.EveryRun.{settled-over}
 use Rattle.rules.proofs.event_claims.Statement.{statement}
 use Rattle.rules.proofs.event_claims.Tie as tie
 

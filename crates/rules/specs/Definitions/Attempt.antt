@@ -17,16 +17,17 @@ use Rattle.rules.specs.Definitions.Longest.{capacity}
 use Rattle.rules.specs.Definitions.Setters.{withSlots, withLost, withErrors, withProgress, withCounters}
 use Rattle.rules.specs.Definitions.Registers.{both, CV, ACKE, FCSE}
 use Rattle.rules.specs.Definitions.Channels.{acknowledgeAsked}
+use Rattle.rules.specs.Definitions.Mailbox.{asksReply}
 use Rattle.rules.specs.declared.Timeslots.{Timeslots}
 use Rattle.rules.specs.declared.Attempts.{Attempts}
 use Rattle.rules.specs.declared.Coded.{Coded}
 use Rattle.rules.specs.declared.Stage.{Stage}
-use Rattle.rules.specs.declared.Stage.the-variants.{Resting, Waiting, Opening, Sending}
+use Rattle.rules.specs.declared.Stage.the-variants.{Resting, Waiting, Opening, Sending, Receiving}
 use Rattle.rules.specs.declared.Progress.{Progress}
 use Rattle.rules.specs.declared.Counters.{Counters}
 use Rattle.rules.specs.declared.Effort.{Effort}
 use Rattle.rules.specs.declared.Verdict.{Verdict}
-use Rattle.rules.specs.declared.Verdict.the-variants.{Unjudged, Goes, Lost, Failed, Done}
+use Rattle.rules.specs.declared.Verdict.the-variants.{Unjudged, Goes, Lost, Failed, Done, Answered}
 
 -- ---- counts: "only stored counts stop at their largest"
 
@@ -53,6 +54,7 @@ isServing Resting = false
 isServing Waiting = true
 isServing Opening = true
 isServing Sending = true
+isServing Receiving = true
 
 unfoldable pub inService : Progress → Bool
 inService p = isServing (p .stage)
@@ -63,6 +65,7 @@ isBetween Resting = false
 isBetween Waiting = true
 isBetween Opening = true
 isBetween Sending = false
+isBetween Receiving = false
 
 unfoldable pub betweenAttempts : Progress → Bool
 betweenAttempts p = isBetween (p .stage)
@@ -72,6 +75,7 @@ isWaiting Resting = false
 isWaiting Waiting = true
 isWaiting Opening = false
 isWaiting Sending = false
+isWaiting Receiving = false
 
 unfoldable pub waits : Progress → Bool
 waits p = isWaiting (p .stage)
@@ -81,9 +85,21 @@ isDriving Resting = false
 isDriving Waiting = false
 isDriving Opening = true
 isDriving Sending = true
+isDriving Receiving = false
 
 unfoldable pub drivesFrame : Progress → Bool
 drivesFrame p = isDriving (p .stage)
+
+-- in an attempt whose request another module answers (02, Req 01)
+unfoldable pub isAnswering : Stage → Bool
+isAnswering Resting = false
+isAnswering Waiting = false
+isAnswering Opening = false
+isAnswering Sending = false
+isAnswering Receiving = true
+
+unfoldable pub isAnswered : Progress → Bool
+isAnswered p = isAnswering (p .stage)
 
 -- ---- the fixed frame: "both acknowledge slots recessive". The remainder is there for counts that no state in range has
 
@@ -152,10 +168,20 @@ differenceIn p o =
 unfoldable pub difference : ℕ → ℕ → ℕ → Verdict
 difference n k d = differenceIn (partOf n k) (both (eqb d 1) (openHalf (halfOf n k)))
 
--- "ends in the slot where it is lost, fails or has sent its last"
+-- a reply request: R/W 1 and RTR 1
+unfoldable pub isRequest : Coded → Bool
+isRequest x = asksReply (getD (x .bytes) 1 0)
+
+-- RTR's first half, slot 29 of a frame
+abbrev pub rtrSlot : ℕ
+rtrSlot = 28
+
+-- "ends in the slot where it is lost, fails or has sent its last". "A requester that sees its recessive RTR driven dominant has not lost contention: the attempt goes on
+-- as a reception" (02, Req 01)
 unfoldable pub judgeSlot : Coded → ℕ → ℕ → Verdict
 judgeSlot x k v =
-    pick (eqb v (due x k)) (pick (ltb (k + 1) (size (x .n))) Goes Done) (difference (x .n) k (levelAt x k))
+    pick (eqb v (due x k)) (pick (ltb (k + 1) (size (x .n))) Goes Done)
+    (pick (both (eqb k rtrSlot) (isRequest x)) Answered (difference (x .n) k (levelAt x k)))
 
 unfoldable pub judge : Effort → ℕ → Verdict
 judge e v = pick (drivesFrame (e .progress)) (judgeSlot (e .frame) (e .progress .at) v) Unjudged
@@ -179,6 +205,7 @@ advance Goes e = withCounters (withProgress e (atStage Sending (e .progress .at 
 advance Lost e = withCounters (withProgress e (atStage Waiting 0)) (lostSpent (e .counters))
 advance (Failed code) e = withCounters (withProgress e (atStage Waiting 0)) (errorSpent (e .counters))
 advance Done e = withCounters (withProgress e (atStage Waiting 0)) (slotSpent (e .counters))
+advance Answered e = withCounters (withProgress e (atStage Receiving 0)) (slotSpent (e .counters))
 
 -- "After error R + 1"
 unfoldable pub exhausted : Effort → Bool

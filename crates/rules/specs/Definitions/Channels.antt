@@ -115,6 +115,18 @@ transmitMessage bits = either (eqb bits 0b0000) (eqb bits 0b0001)
 unfoldable pub deferredReply : ℕ → Bool
 deferredReply bits = eqb bits 0b1001
 
+-- "1,1,0,0": a reply request to be sent (02, Req 01)
+unfoldable pub requestMessage : ℕ → Bool
+requestMessage bits = eqb bits 0b1100
+
+-- "1,1,-,0 listens for R/W 1 with RTR 0" (02, Req 01)
+unfoldable pub awaitsReply : ℕ → Bool
+awaitsReply bits = either (eqb bits 0b1100) (eqb bits 0b1110)
+
+-- "1,0,0,0": an immediate reply (02, Req 01)
+unfoldable pub immediateReply : ℕ → Bool
+immediateReply bits = eqb bits 0b1000
+
 -- ---- who takes a frame
 
 -- "A frame matches when every tag bit under a mask one equals the identifier's."
@@ -122,11 +134,12 @@ unfoldable pub matches : ℕ → ℕ → ℕ → Bool
 matches tag mask identifier = eqb (bitAnd (bitXor tag identifier) mask) 0
 
 -- R/W and RTR are the frame's low two bits: "0,1,-,0 takes data frames (R/W 0, RTR 0). 1,0,1,0 takes reply requests (1,1)".
--- "EXT 0, or R/W 0 with RTR 1, is ignored without interrupt", and so is R/W 1 with RTR 0, which no status takes.
+-- "EXT 0, or R/W 0 with RTR 1, is ignored without interrupt". "1,1,-,0 listens for R/W 1 with RTR 0" (02, Req 01).
 unfoldable pub listens : Channel → ℕ → Bool
 listens x low =
     both (extension low)
-    (either (both (eqb (low % 4) 0b00) (receiveMessage (statusBits x))) (both (eqb (low % 4) 0b11) (requestDetection (statusBits x))))
+    (either (both (eqb (low % 4) 0b00) (receiveMessage (statusBits x)))
+    (either (both (eqb (low % 4) 0b11) (requestDetection (statusBits x))) (both (eqb (low % 4) 0b10) (awaitsReply (statusBits x)))))
 
 unfoldable pub takes : List ℕ → ℕ → ℕ → ℕ → Bool
 takes m c high low =
@@ -165,10 +178,10 @@ winnerFor m high low = won m (lowestListening m high low)
 
 -- ---- who sends
 
--- "0,0,0,- or 1,0,0,1, CHER 0"
+-- "0,0,0,- or 1,0,0,1, CHER 0", and 1,1,0,0 (02, Req 01)
 unfoldable pub asksToSend : Channel → Bool
 asksToSend x =
-    both (either (transmitMessage (statusBits x)) (deferredReply (statusBits x))) (not (cher (x .status)))
+    both (either (transmitMessage (statusBits x)) (either (deferredReply (statusBits x)) (requestMessage (statusBits x)))) (not (cher (x .status)))
 
 -- "a legal M_L": status byte and at most `longest` data bytes
 unfoldable pub sendable : Buffer → ℕ → Bool
@@ -179,3 +192,19 @@ ready m longest c = both (asksToSend (channelAt m c)) (sendable (bufferOf m c) l
 
 unfoldable pub lowestReady : List ℕ → ℕ → Choice
 lowestReady m longest = lowest (ready m longest) channels 0
+
+-- ---- who replies (02, Req 01: "The replier is the lowest match with 1,0,0,0, CHER 0 and a legal M_L, if no lower 1,0,1,0 matches")
+
+-- channel c settles who replies: it matches, and it is such a replier or 1,0,1,0 with a good link
+unfoldable pub settlesReply : List ℕ → ℕ → ℕ → ℕ → ℕ → Bool
+settlesReply m longest high low c =
+    both (matches (twelve (channelAt m c .high) (channelAt m c .low)) (twelve (channelAt m c .«mask_high») (channelAt m c .«mask_low»)) (twelve high low))
+    (pick (requestDetection (statusBits (channelAt m c))) (bufferOf m c .legal)
+    (both (immediateReply (statusBits (channelAt m c))) (both (not (cher (channelAt m c .status))) (sendable (bufferOf m c) longest))))
+
+unfoldable pub ifReplies : List ℕ → Choice → Choice
+ifReplies m Nothing = Nothing
+ifReplies m (Lowest c) = pick (immediateReply (statusBits (channelAt m c))) (Lowest c) Nothing
+
+unfoldable pub replierFor : List ℕ → ℕ → ℕ → ℕ → Choice
+replierFor m longest high low = ifReplies m (lowest (settlesReply m longest high low) channels 0)

@@ -2,7 +2,7 @@
 --   mailboxAt == an address in the mailbox        stored == a frame in the mailbox
 --   sentFrame, coded == the frame that a channel sends, and its bytes        retagged, marked.. == what is written to a channel
 use Prim.Native.Nat.{ℕ, zero, suc, _+_, _-_, _*_, _/_, _%_}
-use mathlib.Core.Bool.{false}
+use mathlib.Core.Bool.{Bool, false}
 use mathlib.Core.List.{List, [], _∷_, _++_}
 use lib.Dec.{eqb}
 use lib.ListN.{length, getD, set, take, drop, replicate}
@@ -40,15 +40,28 @@ mailboxBytes m pointer k (suc n) = getD m (mailboxAt pointer k) 0 ∷ mailboxByt
 unfoldable pub dataIn : ℕ → ℕ
 dataIn length = pick (eqb length 0) 0 ((length - 1) % (capacity + 1))
 
--- "its frame has the channel's tag and command and M_L - 1 data bytes from pointer + 1"; "The fixed frame has both acknowledge slots recessive"
-unfoldable pub sentFrame : List ℕ → ℕ → Frame
-sentFrame m c =
+-- a frame by its first two bytes, identifier and command, with n data bytes of channel c's; "both acknowledge slots recessive"
+unfoldable pub frameWith : List ℕ → ℕ → ℕ → ℕ → ℕ → Frame
+frameWith m c high low n =
     record {
-      identifier = twelve (getD m (base c) 0) (getD m (base c + 1) 0);
-      command = getD m (base c + 1) 0 % 16;
-      bytes = mailboxBytes m (bufferOf m c .pointer) 1 (dataIn (bufferOf m c .length));
+      identifier = twelve high low;
+      command = low % 16;
+      bytes = mailboxBytes m (bufferOf m c .pointer) 1 n;
       acknowledge = false;
     }
+
+-- R/W 1 and RTR 1
+unfoldable pub asksReply : ℕ → Bool
+asksReply low = eqb (low % 4) 3
+
+-- "its frame has the channel's tag and command and M_L - 1 data bytes from pointer + 1"; "A request is sent with no data bytes, whatever its M_L" (02, Req 01)
+unfoldable pub sentFrame : List ℕ → ℕ → Frame
+sentFrame m c =
+    frameWith m c (getD m (base c) 0) (getD m (base c + 1) 0) (pick (asksReply (getD m (base c + 1) 0)) 0 (dataIn (bufferOf m c .length)))
+
+-- the frame that channel c replies with: identifier and command are given
+unfoldable pub replyFrame : List ℕ → ℕ → ℕ → ℕ → Frame
+replyFrame m c high low = frameWith m c high low (dataIn (bufferOf m c .length))
 
 -- identifier, command, data and check of a frame as bytes, a zero bit behind the check, and zeros up to the longest frame
 unfoldable pub codedBytes : Frame → List ℕ

@@ -82,6 +82,15 @@ startEnded r = behind r 0
 unfoldable pub commandEnded : Reception → Bool
 commandEnded r = behind r 4
 
+-- R/W has just been taken, in a frame with EXT 1 and R/W 1: three bits of the fourth nibble (02, Req 01: "taken in the R/W slot (house)")
+unfoldable pub readsAsked : Reception → Bool
+readsAsked r =
+    both (inBody (r .place)) (both (eqb (r .nibbles) 3) (both (eqb (r .place .at) 3) (both (eqb (r .bits / 4 % 2) 1) (eqb (r .bits % 2) 1))))
+
+-- byte 1 of a reply to it: identifier bits 3 to 0, EXT 1, RAK as heard, R/W 1, RTR 0
+unfoldable pub replyLow : Reception → ℕ
+replyLow r = getD (r .bytes) 1 0 / 16 * 16 + 8 + r .bits / 2 % 2 * 4 + 2
+
 -- ---- the fields of the frame under way
 
 abbrev pub withPlace : Reception → Place → Reception

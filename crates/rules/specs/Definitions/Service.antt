@@ -8,12 +8,12 @@ use lib.Dec.{eqb, ltb}
 use lib.ListN.{getD, replicate}
 use Rattle.line.specs.Bits.{pick}
 use Rattle.rules.specs.Definitions.Longest.{capacity}
-use Rattle.rules.specs.Definitions.Setters.{withTe, withTok, withSending, withMessage, withFlags, withFrame, withSetting, withProgress, withChannel, withAbort, withRear, withEffort}
-use Rattle.rules.specs.Definitions.Registers.{both, transmitControl, retrySetting}
-use Rattle.rules.specs.Definitions.Channels.{base, cher, lowestReady}
-use Rattle.rules.specs.Definitions.Mailbox.{sentFrame, coded, markedCher, markedChtx}
-use Rattle.rules.specs.Definitions.Reception.{free, underWay, startEnded}
-use Rattle.rules.specs.Definitions.Attempt.{noCounts, atStage, inService, betweenAttempts, waits, drivesFrame, exhausted}
+use Rattle.rules.specs.Definitions.Setters.{withTe, withTok, withRe, withSending, withMessage, withError, withFlags, withFrame, withSetting, withProgress, withChannel, withAbort, withRear, withEffort}
+use Rattle.rules.specs.Definitions.Registers.{both, transmitControl, retrySetting, CV, BOV}
+use Rattle.rules.specs.Definitions.Channels.{base, cher, lowestReady, replierFor}
+use Rattle.rules.specs.Definitions.Mailbox.{sentFrame, replyFrame, coded, markedCher, markedChtx, markedChrx}
+use Rattle.rules.specs.Definitions.Reception.{free, underWay, startEnded, replyLow}
+use Rattle.rules.specs.Definitions.Attempt.{noCounts, atStage, inService, betweenAttempts, waits, drivesFrame, isAnswered, isRequest, rtrSlot, judgeSlot, exhausted}
 use Rattle.rules.specs.declared.Retries.{Retries}
 use Rattle.rules.specs.declared.Report.{Report}
 use Rattle.rules.specs.declared.Choice.{Choice}
@@ -23,19 +23,22 @@ use Rattle.rules.specs.declared.Place.{Place}
 use Rattle.rules.specs.declared.Reception.{Reception}
 use Rattle.rules.specs.declared.Hearing.{Hearing}
 use Rattle.rules.specs.declared.Hearing.the-variants.{Silent, Follows, Fault, Good}
+use Rattle.rules.specs.declared.Delivery.{Delivery}
+use Rattle.rules.specs.declared.Delivery.the-variants as delivery
+use Rattle.rules.specs.declared.ImmediateReply.{ImmediateReply}
 use Rattle.rules.specs.declared.Stage.the-variants.{Resting, Waiting, Opening}
 use Rattle.rules.specs.declared.Progress.{Progress}
 use Rattle.rules.specs.declared.Service.{Service}
 use Rattle.rules.specs.declared.Verdict.{Verdict}
-use Rattle.rules.specs.declared.Verdict.the-variants.{Unjudged, Goes, Lost, Failed, Done}
+use Rattle.rules.specs.declared.Verdict.the-variants.{Unjudged, Goes, Lost, Failed, Done, Answered}
 use Rattle.rules.specs.declared.Ending.{Ending}
-use Rattle.rules.specs.declared.Ending.the-variants.{Going, Sent, Exhausted, Aborted, Rearbitrated}
+use Rattle.rules.specs.declared.Ending.the-variants.{Going, Sent, Exhausted, Aborted, Rearbitrated, Fulfilled}
 use Rattle.rules.specs.declared.Role.{Role}
-use Rattle.rules.specs.declared.Role.the-variants.{Nobody, Receiver, Sender}
+use Rattle.rules.specs.declared.Role.the-variants.{Nobody, Receiver, Sender, Asker, Replier}
 
--- sender from its first driven slot on, receiver of any other frame under way
-unfoldable pub roleOf : Progress → Place → Role
-roleOf p here = pick (drivesFrame p) Sender (pick (underWay here) Receiver Nobody)
+-- sender from its first driven slot on; asker once its request is answered; replier; receiver of any other frame under way
+unfoldable pub roleOf : Progress → Bool → Place → Role
+roleOf p replies here = pick (drivesFrame p) Sender (pick (isAnswered p) Asker (pick replies Replier (pick (underWay here) Receiver Nobody)))
 
 unfoldable pub resting : Service
 resting =
@@ -61,6 +64,7 @@ endingOf Goes s = stopped s
 endingOf Lost s = stopped s
 endingOf (Failed code) s = stopped s
 endingOf Done s = Sent
+endingOf Answered s = stopped s
 
 unfoldable pub settled : Ending → Service → Service
 settled Going s = s
@@ -68,6 +72,7 @@ settled Sent s = resting
 settled Exhausted s = resting
 settled Aborted s = resting
 settled Rearbitrated s = resting
+settled Fulfilled s = resting
 
 -- "After error R + 1: TE, CHER, CHTx. Success: TOK, CHTx." An abort sets CHTx (000, Abort), REAR nothing.
 unfoldable pub memoryEnded : Ending → List ℕ → ℕ → List ℕ
@@ -76,6 +81,7 @@ memoryEnded Sent m c = markedChtx m c
 memoryEnded Exhausted m c = markedChtx (markedCher m c) c
 memoryEnded Aborted m c = markedChtx m c
 memoryEnded Rearbitrated m c = m
+memoryEnded Fulfilled m c = m
 
 -- "Retry fields show the smaller of errors and R"; errors below R are below 256, and the remainder is there for other numbers only
 unfoldable pub retriesOf : Service → Retries
@@ -93,8 +99,9 @@ unfoldable pub reportJudged : Verdict → Report → Service → Report
 reportJudged Unjudged x s = x
 reportJudged Goes x s = x
 reportJudged Lost x s = x
-reportJudged (Failed code) x s = reportSending x s
+reportJudged (Failed code) x s = reportSending (withError x code) s
 reportJudged Done x s = x
+reportJudged Answered x s = x
 
 -- "0x06 is written on success, exhaustion"
 unfoldable pub reportEnded : Ending → Report → Service → Report
@@ -103,6 +110,80 @@ reportEnded Sent x s = withFlags (withMessage x (retriesOf s)) (withTok (x .flag
 reportEnded Exhausted x s = withFlags (withMessage x (retriesOf s)) (withTe (x .flags) true)
 reportEnded Aborted x s = x
 reportEnded Rearbitrated x s = x
+reportEnded Fulfilled x s = x
+
+-- ---- a request (02, Req 01)
+
+-- a good end, for the attempt that is answered: "counts as success .. if the frame ends valid and fits the channel that takes it .., else, or where none takes it (CV, at
+-- the end of a good frame), as an error"
+unfoldable pub goodFor : Delivery → Verdict
+goodFor delivery.Nothing = Failed CV
+goodFor delivery.Stored = Done
+goodFor delivery.Overflowed = Failed BOV
+goodFor delivery.Spoiled = Failed CV
+
+-- what a sample of the frame that answers it is for the attempt
+unfoldable pub answeredAs : Hearing → Delivery → Verdict
+answeredAs Silent d = Answered
+answeredAs Follows d = Answered
+answeredAs (Fault code) d = Failed code
+answeredAs Good d = goodFor d
+
+-- "a service waiting to send it ends in the slot where its channel stores that reply, without TE (house)": a frame with R/W 1 and RTR 0
+unfoldable pub fulfils : Delivery → Reception → Service → Bool
+fulfils delivery.Nothing r s = false
+fulfils delivery.Stored r s =
+    both (betweenAttempts (s .effort .progress))
+    (both (isRequest (s .effort .frame)) (both (eqb (r .winner .channel) (s .channel)) (eqb (getD (r .bytes) 1 0 % 4) 0b10)))
+fulfils delivery.Overflowed r s = false
+fulfils delivery.Spoiled r s = false
+
+-- ---- an immediate reply (02, Req 01)
+
+unfoldable pub noReply : ImmediateReply
+noReply = record { going = false; channel = 0; at = 0; frame = resting .effort .frame }
+
+-- it "is lost, fails or succeeds as an attempt does"
+unfoldable pub judgeReply : ImmediateReply → ℕ → Verdict
+judgeReply y v = judgeSlot (y .frame) (y .at) v
+
+unfoldable pub replyMoved : ImmediateReply → ImmediateReply
+replyMoved y = record { going = y .going; channel = y .channel; at = y .at + 1; frame = y .frame }
+
+-- "is never repeated"
+unfoldable pub replied : Verdict → ImmediateReply → ImmediateReply
+replied Unjudged y = y
+replied Goes y = replyMoved y
+replied Lost y = noReply
+replied (Failed code) y = noReply
+replied Done y = noReply
+replied Answered y = noReply
+
+-- success sets CHTx and CHRx (000: 1,0,1,1); "An error in it sets CHER and RE, not TE"
+unfoldable pub memoryReplied : Verdict → List ℕ → ℕ → List ℕ
+memoryReplied Unjudged m c = m
+memoryReplied Goes m c = m
+memoryReplied Lost m c = m
+memoryReplied (Failed code) m c = markedCher m c
+memoryReplied Done m c = markedChrx (markedChtx m c) c
+memoryReplied Answered m c = m
+
+-- TOK, "0x06: retries 0"
+unfoldable pub reportReplied : Verdict → Report → ℕ → Report
+reportReplied Unjudged x c = x
+reportReplied Goes x c = x
+reportReplied Lost x c = x
+reportReplied (Failed code) x c = withFlags x (withRe (x .flags) true)
+reportReplied Done x c = withFlags (withMessage x (record { count = 0; channel = c })) (withTok (x .flags) true)
+reportReplied Answered x c = x
+
+-- the reply of the channel that replies, taken with its data bytes; it begins at RTR's first half
+unfoldable pub replyBy : List ℕ → ℕ → ℕ → Choice → ImmediateReply
+replyBy m high low Nothing = noReply
+replyBy m high low (Lowest c) = record { going = true; channel = c; at = rtrSlot; frame = coded (replyFrame m c high low) }
+
+unfoldable pub replyTaken : List ℕ → ℕ → Reception → ImmediateReply
+replyTaken m longest r = replyBy m (getD (r .bytes) 0 0) (replyLow r) (replierFor m longest (getD (r .bytes) 0 0) (replyLow r))
 
 -- ---- choice and start
 
@@ -152,3 +233,4 @@ hearOwn Goes = Follows
 hearOwn Lost = Follows
 hearOwn (Failed code) = Fault code
 hearOwn Done = Good
+hearOwn Answered = Follows

@@ -13,6 +13,7 @@ use Rattle.rules.specs.declared.Progress.{Progress}
 use Rattle.rules.specs.declared.Counters.{Counters}
 use Rattle.rules.specs.declared.Effort.{Effort}
 use Rattle.rules.specs.declared.Service.{Service}
+use Rattle.rules.specs.declared.ImmediateReply.{ImmediateReply}
 use Rattle.rules.specs.declared.Activity.{Activity}
 use Rattle.rules.specs.declared.Core.{Core}
 
@@ -89,16 +90,19 @@ withEffort s e = record { channel = s .channel; abort = s .abort; rear = s .rear
 -- ---- Core
 
 abbrev pub withActivity : Core → Activity → Core
-withActivity k a = record { activity = a; report = k .report; line = k .line; reception = k .reception; service = k .service }
+withActivity k a = record { activity = a; report = k .report; line = k .line; reception = k .reception; service = k .service; reply = k .reply }
 
 abbrev pub withReport : Core → Report → Core
-withReport k x = record { activity = k .activity; report = x; line = k .line; reception = k .reception; service = k .service }
+withReport k x = record { activity = k .activity; report = x; line = k .line; reception = k .reception; service = k .service; reply = k .reply }
 
 abbrev pub withLine : Core → Line → Core
-withLine k l = record { activity = k .activity; report = k .report; line = l; reception = k .reception; service = k .service }
+withLine k l = record { activity = k .activity; report = k .report; line = l; reception = k .reception; service = k .service; reply = k .reply }
 
 abbrev pub withReception : Core → Reception → Core
-withReception k r = record { activity = k .activity; report = k .report; line = k .line; reception = r; service = k .service }
+withReception k r = record { activity = k .activity; report = k .report; line = k .line; reception = r; service = k .service; reply = k .reply }
 
 abbrev pub withService : Core → Service → Core
-withService k s = record { activity = k .activity; report = k .report; line = k .line; reception = k .reception; service = s }
+withService k s = record { activity = k .activity; report = k .report; line = k .line; reception = k .reception; service = s; reply = k .reply }
+
+abbrev pub withReply : Core → ImmediateReply → Core
+withReply k y = record { activity = k .activity; report = k .report; line = k .line; reception = k .reception; service = k .service; reply = y }

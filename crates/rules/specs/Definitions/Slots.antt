@@ -7,14 +7,14 @@ use mathlib.Core.Bool.{Bool, not}
 use mathlib.Core.List.{List}
 use lib.ListN.{getD}
 use Rattle.line.specs.Bits.{pick}
-use Rattle.rules.specs.Definitions.Setters.{withEffort, withReport, withLine, withReception, withService}
+use Rattle.rules.specs.Definitions.Setters.{withEffort, withReport, withLine, withReception, withService, withReply}
 use Rattle.rules.specs.Definitions.Longest.{longestOf}
 use Rattle.rules.specs.Definitions.Registers.{both, lineControl, transmitControl, diagnosisControl, autonomous, sampled}
-use Rattle.rules.specs.Definitions.Reception.{underWay, commandEnded, winnerTaken}
+use Rattle.rules.specs.Definitions.Reception.{underWay, commandEnded, readsAsked, winnerTaken}
 use Rattle.rules.specs.Definitions.Hearing.{lineAfter, receptionAfter, hearFrame, hearQuiet, receiverLevel}
 use Rattle.rules.specs.Definitions.Delivery.{deliveryOf, memoryDelivered, reportHeard, reportDelivered}
-use Rattle.rules.specs.Definitions.Attempt.{levelAt, judge, advance}
-use Rattle.rules.specs.Definitions.Service.{roleOf, endingOf, settled, memoryEnded, reportSending, reportJudged, reportEnded, choose, started, hearOwn}
+use Rattle.rules.specs.Definitions.Attempt.{levelAt, judgeSlot, advance}
+use Rattle.rules.specs.Definitions.Service.{roleOf, endingOf, settled, memoryEnded, reportSending, reportJudged, reportEnded, answeredAs, fulfils, judgeReply, replied, memoryReplied, reportReplied, replyTaken, choose, started, hearOwn}
 use Rattle.rules.specs.Definitions.State.{isActive, serving, idleDue}
 use Rattle.rules.specs.declared.Report.{Report}
 use Rattle.rules.specs.declared.Reception.{Reception}
@@ -22,22 +22,36 @@ use Rattle.rules.specs.declared.Hearing.{Hearing}
 use Rattle.rules.specs.declared.Delivery.{Delivery}
 use Rattle.rules.specs.declared.Delivery.the-variants.{Nothing}
 use Rattle.rules.specs.declared.Service.{Service}
+use Rattle.rules.specs.declared.ImmediateReply.{ImmediateReply}
 use Rattle.rules.specs.declared.Verdict.{Verdict}
+use Rattle.rules.specs.declared.Verdict.the-variants.{Unjudged}
 use Rattle.rules.specs.declared.Ending.{Ending}
+use Rattle.rules.specs.declared.Ending.the-variants.{Fulfilled}
 use Rattle.rules.specs.declared.Role.{Role}
-use Rattle.rules.specs.declared.Role.the-variants.{Nobody, Receiver, Sender}
+use Rattle.rules.specs.declared.Role.the-variants.{Nobody, Receiver, Sender, Asker, Replier}
 use Rattle.rules.specs.declared.Core.{Core}
 use Rattle.rules.specs.declared.Controller.{Controller}
 
 -- ---- what a sample is
 
 abbrev pub roleIn : Core → Role
-roleIn k = roleOf (k .service .effort .progress) (k .reception .place)
+roleIn k = roleOf (k .service .effort .progress) (k .reply .going) (k .reception .place)
 
+-- what the sample is for an immediate reply under way
+unfoldable pub replyVerdict : Role → Core → ℕ → Verdict
+replyVerdict Nobody k v = Unjudged
+replyVerdict Receiver k v = Unjudged
+replyVerdict Sender k v = Unjudged
+replyVerdict Asker k v = Unjudged
+replyVerdict Replier k v = judgeReply (k .reply) v
+
+-- and for the line and the frame under way; w is what it is for the attempt
 unfoldable pub heardAs : Role → Core → Verdict → ℕ → Hearing
 heardAs Nobody k w v = hearQuiet (k .line) v
 heardAs Receiver k w v = hearFrame (k .reception) (longestOf k) v
 heardAs Sender k w v = hearOwn w
+heardAs Asker k w v = hearFrame (k .reception) (longestOf k) v
+heardAs Replier k w v = hearOwn (judgeReply (k .reply) v)
 
 unfoldable pub heard : Core → Verdict → ℕ → Hearing
 heard k w v = heardAs (roleIn k) k w v
@@ -47,12 +61,27 @@ unfoldable pub delivers : Role → Hearing → Reception → Delivery
 delivers Nobody h r = Nothing
 delivers Receiver h r = deliveryOf h r
 delivers Sender h r = Nothing
+delivers Asker h r = deliveryOf h r
+delivers Replier h r = Nothing
+
+-- what the sample is for the attempt under way
+unfoldable pub verdictAs : Role → Core → ℕ → Verdict
+verdictAs Nobody k v = Unjudged
+verdictAs Receiver k v = Unjudged
+verdictAs Sender k v = judgeSlot (k .service .effort .frame) (k .service .effort .progress .at) v
+verdictAs Asker k v = answeredAs (hearFrame (k .reception) (longestOf k) v) (deliveryOf (hearFrame (k .reception) (longestOf k) v) (k .reception))
+verdictAs Replier k v = Unjudged
+
+unfoldable pub verdict : Core → ℕ → Verdict
+verdict k v = verdictAs (roleIn k) k v
 
 unfoldable pub serviceJudged : Verdict → Service → Service
 serviceJudged w s = withEffort s (advance w (s .effort))
 
-unfoldable pub ending : Core → Verdict → Ending
-ending k w = endingOf w (serviceJudged w (k .service))
+-- a reply that a waiting request's channel stores ends its service; else the attempt, or what the host asked
+unfoldable pub ending : Core → Verdict → Hearing → Ending
+ending k w h =
+    pick (fulfils (delivers (roleIn k) h (k .reception)) (k .reception) (k .service)) Fulfilled (endingOf w (serviceJudged w (k .service)))
 
 -- ---- its effects
 
@@ -61,22 +90,35 @@ unfoldable pub receptionJudged : List ℕ → Hearing → Reception → ℕ → 
 receptionJudged m h r v =
     pick (commandEnded (receptionAfter h r v)) (winnerTaken (receptionAfter h r v) m) (receptionAfter h r v)
 
--- 0x07, then what the frame did, then 0x05 at an error, then the end of the service
-unfoldable pub reportAfter : Core → Verdict → Hearing → Report
-reportAfter k w h =
-    reportEnded (ending k w)
+-- 0x07, then what the frame did, then 0x05 at an error, then the end of the service, then the reply; q is what the sample is for it
+unfoldable pub reportAfter : Core → Verdict → Verdict → Hearing → Report
+reportAfter k w q h =
+    reportReplied q
+    (reportEnded (ending k w h)
     (reportJudged w (reportDelivered (delivers (roleIn k) h (k .reception)) (reportHeard h (k .report)) (k .reception)) (serviceJudged w (k .service)))
-    (serviceJudged w (k .service))
+    (serviceJudged w (k .service)))
+    (k .reply .channel)
 
--- the store or CHER first, then the marks of a service that ends
-unfoldable pub memoryJudged : List ℕ → Core → Verdict → Hearing → List ℕ
-memoryJudged m k w h = memoryEnded (ending k w) (memoryDelivered (delivers (roleIn k) h (k .reception)) m (k .reception)) (k .service .channel)
+-- the store or CHER first, then the marks of a service that ends, then those of the reply
+unfoldable pub memoryJudged : List ℕ → Core → Verdict → Verdict → Hearing → List ℕ
+memoryJudged m k w q h =
+    memoryReplied q (memoryEnded (ending k w h) (memoryDelivered (delivers (roleIn k) h (k .reception)) m (k .reception)) (k .service .channel)) (k .reply .channel)
 
-unfoldable pub coreJudged : List ℕ → Core → Verdict → Hearing → ℕ → Core
-coreJudged m k w h v =
-    withService
-    (withReception (withLine (withReport k (reportAfter k w h)) (lineAfter h (k .line) v)) (receptionJudged m h (k .reception) v))
-    (settled (ending k w) (serviceJudged w (k .service)))
+-- the reply is taken in the R/W slot of another module's frame; r is the frame after the sample
+unfoldable pub replyAfter : Role → List ℕ → Core → Verdict → Reception → ImmediateReply
+replyAfter Nobody m k q r = k .reply
+replyAfter Receiver m k q r = pick (readsAsked r) (replyTaken m (longestOf k) r) (k .reply)
+replyAfter Sender m k q r = k .reply
+replyAfter Asker m k q r = k .reply
+replyAfter Replier m k q r = replied q (k .reply)
+
+unfoldable pub coreJudged : List ℕ → Core → Verdict → Verdict → Hearing → ℕ → Core
+coreJudged m k w q h v =
+    withReply
+    (withService
+    (withReception (withLine (withReport k (reportAfter k w q h)) (lineAfter h (k .line) v)) (receptionJudged m h (k .reception) v))
+    (settled (ending k w h) (serviceJudged w (k .service))))
+    (replyAfter (roleIn k) m k q (receptionJudged m h (k .reception) v))
 
 -- ---- what follows
 
@@ -102,6 +144,8 @@ unfoldable pub drivesAs : Role → Core → ℕ
 drivesAs Nobody k = 1
 drivesAs Receiver k = receiverLevel (k .reception)
 drivesAs Sender k = levelAt (k .service .effort .frame) (k .service .effort .progress .at)
+drivesAs Asker k = receiverLevel (k .reception)
+drivesAs Replier k = levelAt (k .reply .frame) (k .reply .at)
 
 unfoldable pub drives : Core → ℕ
 drives k = drivesAs (roleIn k) k
@@ -112,17 +156,17 @@ drives k = drivesAs (roleIn k) k
 unfoldable pub sampleOf : Controller → ℕ → ℕ
 sampleOf c levels = sampled (getD (c .memory) lineControl 0) (getD (c .memory) diagnosisControl 0) levels
 
--- memory map and state after a sample v that is w for the attempt and h for the line
-unfoldable pub judgedSlot : Controller → Verdict → Hearing → ℕ → Controller
-judgedSlot c w h v =
+-- memory map and state after a sample v that is w for the attempt, q for the reply and h for the line
+unfoldable pub judgedSlot : Controller → Verdict → Verdict → Hearing → ℕ → Controller
+judgedSlot c w q h v =
     record {
-      memory = memoryJudged (c .memory) (c .core) w h;
-      core = followsOn (memoryJudged (c .memory) (c .core) w h) (coreJudged (memoryJudged (c .memory) (c .core) w h) (c .core) w h v);
+      memory = memoryJudged (c .memory) (c .core) w q h;
+      core = followsOn (memoryJudged (c .memory) (c .core) w q h) (coreJudged (memoryJudged (c .memory) (c .core) w q h) (c .core) w q h v);
     }
 
 unfoldable pub sampledSlot : Controller → ℕ → Controller
 sampledSlot c v =
-    judgedSlot c (judge (c .core .service .effort) v) (heard (c .core) (judge (c .core .service .effort) v) v) v
+    judgedSlot c (verdict (c .core) v) (replyVerdict (roleIn (c .core)) (c .core) v) (heard (c .core) (verdict (c .core) v) v) v
 
 unfoldable pub activeSlot : Controller → ℕ → Controller
 activeSlot c levels = sampledSlot c (sampleOf c levels)

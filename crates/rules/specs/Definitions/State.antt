@@ -8,11 +8,11 @@ use lib.Dec.{leb}
 use Rattle.line.specs.Bits.{pick}
 use Rattle.line.specs.Frame.{size}
 use Rattle.rules.specs.Definitions.Longest.{capacity, mostNibbles}
-use Rattle.rules.specs.Definitions.Setters.{withActivity, withLine, withReception, withService}
+use Rattle.rules.specs.Definitions.Setters.{withActivity, withLine, withReception, withService, withReply}
 use Rattle.rules.specs.Definitions.Registers.{both, resetReport}
 use Rattle.rules.specs.Definitions.Reception.{unsettled, quiet}
 use Rattle.rules.specs.Definitions.Attempt.{inService}
-use Rattle.rules.specs.Definitions.Service.{resting}
+use Rattle.rules.specs.Definitions.Service.{resting, noReply}
 use Rattle.rules.specs.declared.Service.{Service}
 use Rattle.rules.specs.declared.Mode.{Mode}
 use Rattle.rules.specs.declared.Mode.the-variants.{Idle, Active, Asleep}
@@ -64,6 +64,9 @@ ranges k =
     ∷ (k .service .effort .setting, 15)
     ∷ (k .service .effort .progress .at, size capacity - 1)
     ∷ (k .service .effort .counters .errors .0, 15)
+    ∷ (k .reply .channel, 13)
+    ∷ (k .reply .at, size capacity - 1)
+    ∷ (k .reply .frame .n, capacity)
     ∷ []
 
 -- every value of a list is at most its largest
@@ -79,13 +82,13 @@ inRange k = within (ranges k)
 -- "Reset .. resets the rest to idle mode."
 unfoldable pub resetCore : Core
 resetCore =
-    record { activity = inMode Idle false; report = resetReport; line = unsettled; reception = quiet; service = resting }
+    record { activity = inMode Idle false; report = resetReport; line = unsettled; reception = quiet; service = resting; reply = noReply }
 
 -- ---- IDLE, SLEEP, ACTI
 
 -- "drops a frame under way and makes the next level recessive"
 unfoldable pub idled : Core → Core
-idled k = withReception (withActivity k (inMode Idle false)) quiet
+idled k = withReply (withReception (withActivity k (inMode Idle false)) quiet) noReply
 
 -- "Idle waits until the service ends; with no service it acts at once"
 unfoldable pub idleDue : Core → Core
@@ -93,7 +96,7 @@ idleDue k = pick (k .activity .waiting) (pick (serving (k .service)) k (idled k)
 
 -- "Sleep acts at once": mode, service, frame and level go; registers and flags stay
 unfoldable pub slept : Core → Core
-slept k = withService (withReception (withActivity k (inMode Asleep false)) quiet) resting
+slept k = withReply (withService (withReception (withActivity k (inMode Asleep false)) quiet) resting) noReply
 
 unfoldable pub idleAsked : Core → Core
 idleAsked k = pick (isActive (k .activity .mode)) (withActivity k (inMode Active true)) k

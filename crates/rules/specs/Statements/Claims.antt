@@ -7,7 +7,7 @@ use lib.ListN.{getD, length, take, drop, replicate}
 use Rattle.line.specs.LineCode.{lineCode}
 use Rattle.line.specs.Frame.{byteBits, slots}
 use Rattle.rules.specs.Definitions.Registers.{either, resetValues}
-use Rattle.rules.specs.Definitions.Channels.{receiveMessage, requestDetection, transmitMessage, deferredReply, matches, lowest}
+use Rattle.rules.specs.Definitions.Channels.{receiveMessage, requestDetection, transmitMessage, deferredReply, requestMessage, matches, lowest}
 use Rattle.rules.specs.Definitions.Mailbox.{resetMemory}
 use Rattle.rules.specs.Statements.Bits.{bitAt}
 use Rattle.rules.specs.Definitions.State.{ranges, inRange}
@@ -18,7 +18,7 @@ use Rattle.rules.specs.Statements.Observer.{atReset}
 use Rattle.rules.specs.Statements.Sending.{SendingOver}
 use Rattle.rules.specs.Statements.Settled.{SettledOver}
 use Rattle.rules.specs.Statements.Receiving.{noLog, ReceivingOver}
-use Rattle.rules.specs.Statements.Runs.{Counts, seenOver, setUp, ones, levels, sent, echoed, overdriven, ran, listening, asking, Stored, lastAnswer, sees, pin, again, sendingData, failures, overdrivenAt, refuses, readsFrom, writesFrom, framed, heardBy, offered, types, flipped, beyond, largestOf}
+use Rattle.rules.specs.Statements.Runs.{Counts, seenOver, setUp, ones, levels, sent, echoed, overdriven, ran, listening, asking, Stored, lastAnswer, sees, pin, again, sendingData, failures, overdrivenAt, refuses, readsFrom, writesFrom, framed, heardBy, offered, types, flipped, beyond, largestOf, lower}
 use Rattle.rules.specs.declared.Choice.the-variants.{Lowest}
 use Rattle.rules.specs.declared.Mode.the-variants.{Active}
 use Rattle.rules.specs.declared.Controller.{Controller}
@@ -193,13 +193,12 @@ pub record Courses : Type 0 where
   pub linked-data-sent : pin (Write 0x10 0xF2 ∷ Write 0x11 0x38 ∷ Write 0x12 0x0D ∷ Write 0x7A 0x20 ∷ Write 0x7B 0x12 ∷ Write 0xA1 0xA5 ∷ Write 0x01 0x23 ∷ Write 0x03 0x10 ∷ (ones 12 ++ levels (take 30 (slots (framed 8 (0xA5 ∷ [])))))) ≡ 1
   -- channel 1, linked to channel 14, does not send: channel 2 does
   pub no-channel-14 : sees (Write 0x13 0x0A ∷ Write 0x1A 0x0E ∷ Write 0x03 0x10 ∷ Slot 1 ∷ []) (0x04 ∷ 0x05 ∷ []) ≡ 0x02 ∷ 0x02 ∷ []
-  -- a channel with CHER 1 listens, and CHER stays; so does one with EXT 0; 1,1,-,0 takes no frame with R/W 1 and RTR 0
+  -- a channel with CHER 1 listens, and CHER stays; so does one with EXT 0; 1,1,1,0 takes a frame with R/W 1 and RTR 0 (02, Req 01)
   pub cher-listens : sees (heardBy (Write 0x1B 0x1C ∷ []) (slots (framed 8 []))) (0x09 ∷ 0x1B ∷ []) ≡ 0x81 ∷ 0x1D ∷ []
   pub channel-ext-0 : sees (heardBy (Write 0x19 0x31 ∷ []) (slots (framed 8 []))) (0x09 ∷ 0x19 ∷ 0x1B ∷ []) ≡ 0x81 ∷ 0x31 ∷ 0x19 ∷ []
-  pub no-reply-taken : sees (heardBy (Write 0x19 0x3B ∷ []) (slots (framed 10 []))) (0x09 ∷ 0x1B ∷ []) ≡ 0x80 ∷ 0x18 ∷ []
-  pub no-reply-awaited : sees (heardBy (Write 0x19 0x3B ∷ Write 0x1B 0x1A ∷ []) (slots (framed 10 []))) (0x09 ∷ 0x1B ∷ []) ≡ 0x80 ∷ 0x1A ∷ []
+  pub reply-taken : sees (heardBy (Write 0x19 0x3B ∷ Write 0x1B 0x1A ∷ []) (slots (framed 10 []))) (0x09 ∷ 0x1B ∷ []) ≡ 0x81 ∷ 0x1B ∷ []
   -- message types, for RNW, RTR, CHTx, CHRx of 0 to 15: sent, takes data, takes requests
-  pub types-sent : types (λ b. either (transmitMessage b) (deferredReply b)) ≡ 1 ∷ 1 ∷ 0 ∷ 0 ∷ 0 ∷ 0 ∷ 0 ∷ 0 ∷ 0 ∷ 1 ∷ 0 ∷ 0 ∷ 0 ∷ 0 ∷ 0 ∷ 0 ∷ []
+  pub types-sent : types (λ b. either (transmitMessage b) (either (deferredReply b) (requestMessage b))) ≡ 1 ∷ 1 ∷ 0 ∷ 0 ∷ 0 ∷ 0 ∷ 0 ∷ 0 ∷ 0 ∷ 1 ∷ 0 ∷ 0 ∷ 1 ∷ 0 ∷ 0 ∷ 0 ∷ []
   pub types-of-data : types receiveMessage ≡ 0 ∷ 0 ∷ 0 ∷ 0 ∷ 1 ∷ 0 ∷ 1 ∷ 0 ∷ 0 ∷ 0 ∷ 0 ∷ 0 ∷ 0 ∷ 0 ∷ 0 ∷ 0 ∷ []
   pub types-of-requests : types requestDetection ≡ 0 ∷ 0 ∷ 0 ∷ 0 ∷ 0 ∷ 0 ∷ 0 ∷ 0 ∷ 0 ∷ 0 ∷ 1 ∷ 0 ∷ 0 ∷ 0 ∷ 0 ∷ 0 ∷ []
   -- a link is four bits of the pointer; DRAK is that of channel 1; a link to a link takes nothing
@@ -225,7 +224,7 @@ pub record Courses : Type 0 where
   pub every-write : refuses [] (writesFrom 240 0x10 0xFF) ≡ replicate 240 0
   -- a state out of its range is refused with 6; the largest values
   pub out-of-range : lastAnswer (record { refused = 0; value = 0; next = beyond }) (Read 0x04 ∷ []) .refused ≡ 6
-  pub largest-values : largestOf (ranges (fresh .core)) ≡ 15 ∷ 13 ∷ 15 ∷ 13 ∷ 32 ∷ 12 ∷ 9 ∷ 67 ∷ 15 ∷ 13 ∷ 127 ∷ 31 ∷ 13 ∷ 30 ∷ 15 ∷ 359 ∷ 15 ∷ []
+  pub largest-values : largestOf (ranges (fresh .core)) ≡ 15 ∷ 13 ∷ 15 ∷ 13 ∷ 32 ∷ 12 ∷ 9 ∷ 67 ∷ 15 ∷ 13 ∷ 127 ∷ 31 ∷ 13 ∷ 30 ∷ 15 ∷ 359 ∷ 15 ∷ 13 ∷ 359 ∷ 30 ∷ []
   -- Ma and Mb alone select the input; PC has no effect, and the receive inversion is for every input
   pub input-by-two-bits : pin (Write 0x02 0xFB ∷ (setUp ++ replicate 12 (Slot 2))) ≡ 0
   pub inverted-rxd1 : pin (Write 0x00 0x09 ∷ Write 0x02 0x08 ∷ (setUp ++ replicate 12 (Slot 5))) ≡ 0
@@ -237,3 +236,20 @@ pub record Courses : Type 0 where
   pub own-identifier-unseen : sees (sendingData ++ (ones 12 ++ (levels (take 14 (slots asking)) ++ ones 1))) (0x05 ∷ 0x07 ∷ []) ≡ 0x10 ∷ 0x02 ∷ []
   pub own-data-unseen : sees (sendingData ++ (ones 12 ++ (levels (take 31 (slots asking)) ++ ones 1))) (0x05 ∷ 0x07 ∷ []) ≡ 0x10 ∷ 0x02 ∷ []
   pub own-check-unseen : sees (sendingData ++ (ones 12 ++ (levels (take 50 (slots asking)) ++ ones 1))) (0x05 ∷ 0x07 ∷ []) ≡ 0x10 ∷ 0x02 ∷ []
+  -- 02, Req 01. A request whose RTR is driven dominant: the frame that answers is stored, TOK, CHTx and CHRx, and 0x06 has channel 1
+  pub answered : sees (heardBy (Write 0x19 0x3B ∷ Write 0x01 0x23 ∷ []) (slots (framed 10 (0xA5 ∷ 0x3C ∷ [])))) (0x06 ∷ 0x09 ∷ 0x1B ∷ 0xFF ∷ 0x80 ∷ 0x81 ∷ []) ≡ 0x01 ∷ 0x89 ∷ 0x1B ∷ 0x42 ∷ 0xA5 ∷ 0x3C ∷ []
+  pub not-answered-yet : sees (heardBy (Write 0x19 0x3B ∷ Write 0x01 0x23 ∷ []) (take 79 (slots (framed 10 (0xA5 ∷ 0x3C ∷ []))))) (0x04 ∷ 0x09 ∷ 0x1B ∷ []) ≡ 0x03 ∷ 0x80 ∷ 0x18 ∷ []
+  -- an answer that does not fit is an error of the attempt, BOV; one that no channel takes is CV at the end of the good frame
+  pub answer-too-long : sees (heardBy (Write 0x19 0x3B ∷ Write 0x01 0x23 ∷ Write 0x1B 0x10 ∷ []) (slots (framed 10 (0xA5 ∷ 0x3C ∷ [])))) (0x05 ∷ 0x07 ∷ 0x09 ∷ 0x1B ∷ []) ≡ 0x11 ∷ 0x20 ∷ 0x84 ∷ 0x14 ∷ []
+  pub answer-untaken : sees (listening ++ (Write 0x19 0x3B ∷ Write 0x01 0x23 ∷ (ones 12 ++ (levels (take 20 (slots (framed 10 (0xA5 ∷ 0x3C ∷ [])))) ++ (Write 0x1B 0x19 ∷ levels (drop 20 (slots (framed 10 (0xA5 ∷ 0x3C ∷ []))))))))) (0x05 ∷ 0x07 ∷ 0x09 ∷ 0x1B ∷ []) ≡ 0x11 ∷ 0x02 ∷ 0x80 ∷ 0x19 ∷ []
+  -- a request that nobody answers is sent, without data, whatever its M_L
+  pub unanswered : sees (heardBy (Write 0x19 0x3B ∷ Write 0x01 0x23 ∷ []) (slots (framed 11 []))) (0x06 ∷ 0x09 ∷ 0x1B ∷ []) ≡ 0x01 ∷ 0x88 ∷ 0x1A ∷ []
+  -- a waiting request ends where its channel stores a reply
+  pub fulfilled : sees (heardBy (Write 0x19 0x3B ∷ Write 0x01 0x23 ∷ Write 0x1F 0x00 ∷ []) (slots lower)) (0x04 ∷ 0x09 ∷ 0x18 ∷ 0x19 ∷ 0x1B ∷ []) ≡ 0x00 ∷ 0x81 ∷ 0xF2 ∷ 0x0B ∷ 0x19 ∷ []
+  -- an immediate reply begins at RTR's first half, not before; sent whole it sets TOK, CHTx and CHRx, and 0x06 has retries 0
+  pub reply-starts : pin (heardBy (Write 0x19 0x3A ∷ Write 0x80 0xA5 ∷ Write 0x81 0x3C ∷ []) (take 28 (slots (framed 11 [])))) ≡ 0
+  pub reply-not-sooner : pin (heardBy (Write 0x19 0x3A ∷ Write 0x80 0xA5 ∷ Write 0x81 0x3C ∷ []) (take 27 (slots (framed 11 [])))) ≡ 1
+  pub reply-sent : sees (heardBy (Write 0x19 0x3A ∷ Write 0x80 0xA5 ∷ Write 0x81 0x3C ∷ []) (slots (framed 10 (0xA5 ∷ 0x3C ∷ [])))) (0x05 ∷ 0x06 ∷ 0x09 ∷ 0x1B ∷ []) ≡ 0x00 ∷ 0x01 ∷ 0x88 ∷ 0x1B ∷ []
+  -- a reply that is lost leaves no mark; an error in it sets CHER and RE, not TE
+  pub reply-lost : sees (heardBy (Write 0x19 0x3A ∷ Write 0x80 0xA5 ∷ Write 0x81 0x3C ∷ []) (take 30 (slots (framed 10 (0xA5 ∷ 0x3C ∷ []))) ++ (0 ∷ []))) (0x04 ∷ 0x05 ∷ 0x09 ∷ 0x1B ∷ []) ≡ 0x01 ∷ 0x00 ∷ 0x80 ∷ 0x18 ∷ []
+  pub reply-failed : sees (heardBy (Write 0x19 0x3A ∷ Write 0x80 0xA5 ∷ Write 0x81 0x3C ∷ []) (take 31 (slots (framed 10 (0xA5 ∷ 0x3C ∷ []))) ++ (1 ∷ []))) (0x04 ∷ 0x05 ∷ 0x07 ∷ 0x09 ∷ 0x1B ∷ []) ≡ 0x00 ∷ 0x00 ∷ 0x02 ∷ 0x84 ∷ 0x1C ∷ []

@@ -14,16 +14,18 @@ use Rattle.rules.specs.Statements.Bits.{bitAt}
 use Rattle.rules.specs.Definitions.Reception.{dataCount}
 use Rattle.rules.specs.Definitions.Hearing.{fits, hearFrame}
 use Rattle.rules.specs.Definitions.State.{isActive}
-use Rattle.rules.specs.Definitions.Slots.{ending, sampleOf}
+use Rattle.rules.specs.Definitions.Slots.{roleIn, heard, ending, sampleOf}
 use Rattle.rules.specs.Definitions.Host.{byteRead, interruptLine}
 use Rattle.rules.specs.Definitions.Run.{fresh, next, after}
 use Rattle.rules.specs.Statements.Observer.{accepted}
-use Rattle.rules.specs.Statements.OwnFrames.{sends, verdictIn}
+use Rattle.rules.specs.Statements.OwnFrames.{verdictIn, replyIn}
 use Rattle.rules.specs.declared.Flags.{Flags}
 use Rattle.rules.specs.declared.Hearing.{Hearing}
 use Rattle.rules.specs.declared.Hearing.the-variants.{Fault, Good}
 use Rattle.rules.specs.declared.Verdict.the-variants.{Failed, Done}
 use Rattle.rules.specs.declared.Ending.the-variants.{Exhausted}
+use Rattle.rules.specs.declared.Role.{Role}
+use Rattle.rules.specs.declared.Role.the-variants.{Nobody, Receiver, Sender, Asker, Replier}
 use Rattle.rules.specs.declared.Controller.{Controller}
 use Rattle.rules.specs.declared.Event.{Event}
 use Rattle.rules.specs.declared.Event.the-variants.{Reset, Write, Slot}
@@ -61,10 +63,18 @@ pub record Sampled (c : Controller) (levels : ℕ) : Type 0 where
   pub taken : accepted c (Slot levels) ≡ true
   pub active : isActive (c .core .activity .mode) ≡ true
 
--- one in which the model is not the sender, with a frame that a channel has matched
+-- the model's own frame: its attempt or its immediate reply
+unfoldable pub ownFrame : Role → Bool
+ownFrame Nobody = false
+ownFrame Receiver = false
+ownFrame Sender = true
+ownFrame Asker = false
+ownFrame Replier = true
+
+-- one in which the model is neither sender nor replier, with a frame that a channel has matched
 pub record Received (c : Controller) (levels : ℕ) : Type 0 where
   pub sampled : Sampled c levels
-  pub other : sends c ≡ false
+  pub other : ownFrame (roleIn (c .core)) ≡ false
   pub matched : c .core .reception .winner .matched ≡ true
 
 -- the receiver's judgement of the slot: Good in the eighth end-of-frame slot of a valid frame
@@ -86,21 +96,23 @@ pub data Resets (c : Controller) : Event → Type 0 where
 
 -- TE: the service ends exhausted in the slot
 pub data Exhausts (c : Controller) : Event → Type 0 where
-  exhausts : {levels : ℕ} → Sampled c levels → ending (c .core) (verdictIn c levels) ≡ Exhausted → Exhausts c (Slot levels)
+  exhausts : {levels : ℕ} → Sampled c levels → ending (c .core) (verdictIn c levels) (heard (c .core) (verdictIn c levels) (sampleOf c levels)) ≡ Exhausted → Exhausts c (Slot levels)
 
 -- and that is error R + 1: an attempt fails in the slot, with R errors before
 pub data LastError (c : Controller) : Event → Type 0 where
   last : {levels : ℕ} (code : ℕ) → Sampled c levels → verdictIn c levels ≡ Failed code
       → c .core .service .effort .counters .errors .0 ≡ c .core .service .effort .setting → LastError c (Slot levels)
 
--- TOK: the attempt has sent its last slot
+-- TOK: the attempt has sent its last slot, or its answered request counts as success; or the immediate reply has sent its last slot
 pub data Completes (c : Controller) : Event → Type 0 where
   completes : {levels : ℕ} → Sampled c levels → verdictIn c levels ≡ Done → Completes c (Slot levels)
+  replied : {levels : ℕ} → Sampled c levels → replyIn c levels ≡ Done → Completes c (Slot levels)
 
--- RE: a fault, or a good end that does not fit
+-- RE: a fault, or a good end that does not fit; or an error in the immediate reply
 pub data Spoils (c : Controller) : Event → Type 0 where
   fault : {levels : ℕ} (code : ℕ) → Received c levels → hearingIn c levels ≡ Fault code → Spoils c (Slot levels)
   overflow : {levels : ℕ} → Received c levels → hearingIn c levels ≡ Good → fitting c ≡ false → Spoils c (Slot levels)
+  broken : {levels : ℕ} (code : ℕ) → Sampled c levels → replyIn c levels ≡ Failed code → Spoils c (Slot levels)
 
 -- ROK and RNOK: a good end that fits, with RAK as asked
 pub data Stores (asked : Bool) (c : Controller) : Event → Type 0 where
@@ -128,9 +140,9 @@ pub record Interrupts : Type 0 where
   pub te : (es : List Event) → Raised (λ f. f .te) Exhausts (after fresh es)
   pub te-sound : (es : List Event) (e : Event) → Exhausts (after fresh es) e → LastError (after fresh es) e
   pub te-complete : (es : List Event) (e : Event) → LastError (after fresh es) e → Exhausts (after fresh es) e
-  -- "Success: TOK"
+  -- "Success: TOK"; a reply "is lost, fails or succeeds as an attempt does" (02, Req 01)
   pub tok : (c : Controller) → Raised (λ f. f .tok) Completes c
-  -- "If it is otherwise valid but doesn't fit: .. RE at the same slot"; "CHER and RE only once a channel has matched"
+  -- "If it is otherwise valid but doesn't fit: .. RE at the same slot"; "CHER and RE only once a channel has matched"; "An error in it sets CHER and RE, not TE" (02, Req 01)
   pub re : (c : Controller) → Raised (λ f. f .re) Spoils c
   -- "a valid, fitting frame ..: ROK if RAK is 1, else RNOK"
   pub rok : (c : Controller) → Raised (λ f. f .rok) (Stores true) c

@@ -4,28 +4,33 @@
 --   Past == the line between frames        freeO, startsO == it is free, it takes a start        codeT == the code of an attempt's error
 --   hearsO == what a sample is for the line and the frame under way        sampledO, idleO, goesOnO == a slot        writtenO == a host write
 --   nextO == the observer after an event
--- A later role of the model (a replier, an answered request) is a case of `hearsIn`.
 use Prim.Native.Nat.{ℕ, suc, zero, _+_, _%_}
-use mathlib.Core.Bool.{Bool, true, false}
+use mathlib.Core.Bool.{Bool, true, false, not}
 use mathlib.Core.List.{List, [], _∷_}
-use lib.Dec.{eqb}
-use lib.ListN.{length}
+use lib.Dec.{eqb, leb}
+use lib.ListN.{length, getD}
 use Rattle.line.specs.Bits.{pick}
 use Rattle.line.specs.Frame.{Frame}
 use Rattle.line.specs.Layout.{partOf, halfOf}
 use Rattle.rules.specs.Definitions.Longest.{longestOf}
 use Rattle.rules.specs.Definitions.Registers.{both, either, command, asksIdle, asksActivation, CV, ACKE, FCSE}
-use Rattle.rules.specs.Definitions.Reception.{quiet, underWay}
+use Rattle.rules.specs.Definitions.Channels.{replierFor}
+use Rattle.rules.specs.Definitions.Mailbox.{replyFrame}
+use Rattle.rules.specs.Definitions.Reception.{quiet, underWay, readsAsked, replyLow, dataCount}
 use Rattle.rules.specs.Definitions.Hearing.{hearFrame}
 use Rattle.rules.specs.Definitions.Attempt.{inCheck, inAcknowledge}
 use Rattle.rules.specs.Definitions.State.{isActive, inMode}
 use Rattle.rules.specs.Definitions.Slots.{receptionJudged, drives, sampleOf}
 use Rattle.rules.specs.Definitions.Host.{resets, sleeps}
 use Rattle.rules.specs.Definitions.Run.{step, next}
-use Rattle.rules.specs.Statements.Tally.{Stand, away, between, opening, inside, Tally, none, Verdict, goes, contended, failed, sent, openHalfT, verdict, countedT, endedT, chooseT, startT, askedT, isAway}
+use Rattle.rules.specs.Statements.Tally.{Stand, away, between, opening, inside, answered, Tally, none, Verdict, goes, contended, failed, sent, answers, Reply, comes, taken, wasted, requestT, openHalfT, verdict, countedT, endedT, chooseT, startT, askedT, isAway}
 use Rattle.rules.specs.declared.Mode.the-variants.{Idle, Active, Asleep}
 use Rattle.rules.specs.declared.Activity.{Activity}
 use Rattle.rules.specs.declared.Reception.{Reception}
+use Rattle.rules.specs.declared.Choice.{Choice}
+use Rattle.rules.specs.declared.Choice.the-variants as choice
+use Rattle.rules.specs.declared.Delivery.{Delivery}
+use Rattle.rules.specs.declared.Delivery.the-variants.{Nothing, Stored, Overflowed, Spoiled}
 use Rattle.rules.specs.declared.Hearing.{Hearing}
 use Rattle.rules.specs.declared.Hearing.the-variants.{Silent, Follows, Fault, Good}
 use Rattle.rules.specs.declared.Controller.{Controller}
@@ -56,6 +61,13 @@ startsO p = either (p .good) (recessive 12 (p .samples))
 unfoldable pub anew : Bool → Past
 anew good = record { good = good; samples = [] }
 
+-- ---- an immediate reply (02, Req 01)
+
+-- none, or its channel, its frame and how many slots of it are past
+pub data Replying : Type 0 where
+  silent : Replying
+  replies : ℕ → Frame → ℕ → Replying
+
 -- ---- the observer
 
 pub record Observer : Type 0 where
@@ -63,22 +75,26 @@ pub record Observer : Type 0 where
   pub line : Past
   pub frame : Reception
   pub tally : Tally
+  pub reply : Replying
 
 abbrev pub withActivityO : Observer → Activity → Observer
-withActivityO o a = record { activity = a; line = o .line; frame = o .frame; tally = o .tally }
+withActivityO o a = record { activity = a; line = o .line; frame = o .frame; tally = o .tally; reply = o .reply }
 
 abbrev pub withLineO : Observer → Past → Observer
-withLineO o p = record { activity = o .activity; line = p; frame = o .frame; tally = o .tally }
+withLineO o p = record { activity = o .activity; line = p; frame = o .frame; tally = o .tally; reply = o .reply }
 
 abbrev pub withFrameO : Observer → Reception → Observer
-withFrameO o r = record { activity = o .activity; line = o .line; frame = r; tally = o .tally }
+withFrameO o r = record { activity = o .activity; line = o .line; frame = r; tally = o .tally; reply = o .reply }
 
 abbrev pub withTallyO : Observer → Tally → Observer
-withTallyO o t = record { activity = o .activity; line = o .line; frame = o .frame; tally = t }
+withTallyO o t = record { activity = o .activity; line = o .line; frame = o .frame; tally = t; reply = o .reply }
+
+abbrev pub withReplyO : Observer → Replying → Observer
+withReplyO o y = record { activity = o .activity; line = o .line; frame = o .frame; tally = o .tally; reply = y }
 
 -- "resets the rest to idle mode"
 unfoldable pub atReset : Observer
-atReset = record { activity = inMode Idle false; line = anew false; frame = quiet; tally = none }
+atReset = record { activity = inMode Idle false; line = anew false; frame = quiet; tally = none; reply = silent }
 
 -- ---- what a sample v is for the line and the frame under way; d is the level driven
 
@@ -94,19 +110,123 @@ hearsOwn goes code = Follows
 hearsOwn contended code = Follows
 hearsOwn failed code = Fault code
 hearsOwn sent code = Good
+hearsOwn answers code = Follows
 
 unfoldable pub hearsOther : Observer → ℕ → ℕ → Hearing
 hearsOther o longest v =
     pick (underWay (o .frame .place)) (hearFrame (o .frame) longest v) (pick (both (eqb v 0) (startsO (o .line))) Follows Silent)
 
+-- outside an attempt; a reply is judged as an attempt is
+unfoldable pub hearsApart : Replying → Observer → ℕ → ℕ → ℕ → Hearing
+hearsApart silent o longest d v = hearsOther o longest v
+hearsApart (replies c f k) o longest d v = hearsOwn (verdict f k d v) (codeT f k d)
+
 unfoldable pub hearsIn : Stand → Observer → ℕ → ℕ → ℕ → Hearing
-hearsIn away o longest d v = hearsOther o longest v
-hearsIn between o longest d v = hearsOther o longest v
+hearsIn away o longest d v = hearsApart (o .reply) o longest d v
+hearsIn between o longest d v = hearsApart (o .reply) o longest d v
 hearsIn (opening start) o longest d v = hearsOwn (verdict (o .tally .frame) start d v) (codeT (o .tally .frame) start d)
 hearsIn (inside start levels) o longest d v = hearsOwn (verdict (o .tally .frame) (start + length levels) d v) (codeT (o .tally .frame) (start + length levels) d)
+hearsIn (answered start n) o longest d v = hearFrame (o .frame) longest v
 
 unfoldable pub hearsO : Observer → ℕ → ℕ → ℕ → Hearing
 hearsO o longest d v = hearsIn (o .tally .stand) o longest d v
+
+-- ---- what another module's frame does, by what the sample is
+
+-- "It fits when n + 1 is at most M_L."
+unfoldable pub fitting : Reception → Bool
+fitting r = leb (dataCount (r .nibbles) + 1) (r .winner .length)
+
+-- "CHER and RE only once a channel has matched"
+unfoldable pub heardDelivery : Hearing → Reception → Delivery
+heardDelivery Silent r = Nothing
+heardDelivery Follows r = Nothing
+heardDelivery (Fault code) r = pick (r .winner .matched) Spoiled Nothing
+heardDelivery Good r = pick (r .winner .matched) (pick (fitting r) Stored Overflowed) Nothing
+
+-- "The model's own frame .. is not stored, touches no receiving channel"
+unfoldable pub deliveredApart : Replying → Hearing → Reception → Delivery
+deliveredApart silent h r = pick (underWay (r .place)) (heardDelivery h r) Nothing
+deliveredApart (replies c f k) h r = Nothing
+
+unfoldable pub deliveredIn : Stand → Replying → Hearing → Reception → Delivery
+deliveredIn away y h r = deliveredApart y h r
+deliveredIn between y h r = deliveredApart y h r
+deliveredIn (opening start) y h r = Nothing
+deliveredIn (inside start levels) y h r = Nothing
+deliveredIn (answered start n) y h r = heardDelivery h r
+
+unfoldable pub isStored : Delivery → Bool
+isStored Nothing = false
+isStored Stored = true
+isStored Overflowed = false
+isStored Spoiled = false
+
+-- an answered request: "if the frame ends valid and fits the channel that takes it .., else, or where none takes it .., as an error" (02, Req 01)
+unfoldable pub answerIn : Hearing → Reception → Reply
+answerIn Silent r = comes
+answerIn Follows r = comes
+answerIn (Fault code) r = wasted
+answerIn Good r = pick (isStored (heardDelivery Good r)) taken wasted
+
+unfoldable pub answerO : Observer → ℕ → ℕ → Reply
+answerO o longest v = answerIn (hearFrame (o .frame) longest v) (o .frame)
+
+-- no attempt is under way; a first level answered and not sampled is none
+unfoldable pub pausing : Stand → Bool
+pausing away = false
+pausing between = true
+pausing (opening start) = true
+pausing (inside start levels) = false
+pausing (answered start n) = false
+
+-- "a service waiting to send it ends in the slot where its channel stores that reply": a frame with R/W 1 and RTR 0 (02, Req 01)
+unfoldable pub waits : Stand → Bool
+waits away = false
+waits between = true
+waits (opening start) = false
+waits (inside start levels) = false
+waits (answered start n) = false
+
+unfoldable pub fulfilledT : Tally → Bool → Reception → Hearing → Bool
+fulfilledT t replying r h =
+    both (both (waits (t .stand)) (requestT (t .frame)))
+    (both (not replying) (both (isStored (heardDelivery h r)) (both (eqb (r .winner .channel) (t .channel)) (eqb (getD (r .bytes) 1 0 % 4) 2))))
+
+unfoldable pub isReplying : Replying → Bool
+isReplying silent = false
+isReplying (replies c f k) = true
+
+unfoldable pub fulfilledO : Observer → Hearing → Bool
+fulfilledO o h = fulfilledT (o .tally) (isReplying (o .reply)) (o .frame) h
+
+-- ---- the reply (02, Req 01)
+
+-- it goes on, or it has ended
+unfoldable pub replyOn : Verdict → ℕ → Frame → ℕ → Replying
+replyOn goes c f k = replies c f (k + 1)
+replyOn contended c f k = silent
+replyOn failed c f k = silent
+replyOn sent c f k = silent
+replyOn answers c f k = silent
+
+-- "it and its data bytes are taken in the R/W slot (house)"; it begins with slot 29
+unfoldable pub replyFrom : List ℕ → ℕ → ℕ → Choice → Replying
+replyFrom m high low choice.Nothing = silent
+replyFrom m high low (choice.Lowest c) = replies c (replyFrame m c high low) 28
+
+-- r is the frame after the sample; "never in a frame that the model itself is sending"
+unfoldable pub replyApart : Replying → ℕ → List ℕ → ℕ → ℕ → Reception → Replying
+replyApart silent longest m d v r =
+    pick (readsAsked r) (replyFrom m (getD (r .bytes) 0 0) (replyLow r) (replierFor m longest (getD (r .bytes) 0 0) (replyLow r))) silent
+replyApart (replies c f k) longest m d v r = replyOn (verdict f k d v) c f k
+
+unfoldable pub replyIn : Stand → Replying → ℕ → List ℕ → ℕ → ℕ → Reception → Replying
+replyIn away y longest m d v r = replyApart y longest m d v r
+replyIn between y longest m d v r = replyApart y longest m d v r
+replyIn (opening start) y longest m d v r = y
+replyIn (inside start levels) y longest m d v r = y
+replyIn (answered start n) y longest m d v r = y
 
 -- ---- a slot; m is the memory map after the sample
 
@@ -122,13 +242,14 @@ sampledO o longest d v m =
       activity = o .activity;
       line = lineO (hearsO o longest d v) (o .line) v;
       frame = receptionJudged m (hearsO o longest d v) (o .frame) v;
-      tally = endedT (countedT (o .tally) d v);
+      tally = pick (fulfilledO o (hearsO o longest d v)) none (endedT (countedT (o .tally) d v (answerO o longest v)));
+      reply = replyIn (o .tally .stand) (o .reply) longest m d v (receptionJudged m (hearsO o longest d v) (o .frame) v);
     }
 
 -- "Idle waits until the service ends; with no service it acts at once, drops a frame under way"
 unfoldable pub idleO : Observer → Observer
 idleO o =
-    pick (o .activity .waiting) (pick (isAway (o .tally .stand)) (withFrameO (withActivityO o (inMode Idle false)) quiet) o) o
+    pick (o .activity .waiting) (pick (isAway (o .tally .stand)) (withReplyO (withFrameO (withActivityO o (inMode Idle false)) quiet) silent) o) o
 
 -- then the choice, then the start
 unfoldable pub goesOnO : Observer → ℕ → List ℕ → Observer
@@ -153,7 +274,7 @@ commandedO o address v =
 unfoldable pub writtenO : Observer → ℕ → ℕ → Observer
 writtenO o address v =
     pick (resets address v) atReset
-    (pick (sleeps address v) (withTallyO (withFrameO (withActivityO o (inMode Asleep false)) quiet) none)
+    (pick (sleeps address v) (withReplyO (withTallyO (withFrameO (withActivityO o (inMode Asleep false)) quiet) none) silent)
     (idleO (withTallyO (commandedO o address v) (endedT (askedT (o .tally) address v)))))
 
 -- ---- an event from controller c; "All else, refused or not, adds nothing"
@@ -167,7 +288,7 @@ unfoldable pub seenIn : Controller → Observer → Event → Tally
 seenIn c o Reset = o .tally
 seenIn c o (Write address value) = o .tally
 seenIn c o (Read address) = o .tally
-seenIn c o (Slot levels) = pick (isActive (o .activity .mode)) (countedT (o .tally) (drives (c .core)) (sampleOf c levels)) (o .tally)
+seenIn c o (Slot levels) = pick (isActive (o .activity .mode)) (countedT (o .tally) (drives (c .core)) (sampleOf c levels) (answerO o (longestOf (c .core)) (sampleOf c levels))) (o .tally)
 
 unfoldable pub seenO : Controller → Observer → Event → Tally
 seenO c o e = pick (accepted c e) (seenIn c o e) (o .tally)

@@ -4,7 +4,7 @@
 --   Acknowledges == what holds where the model drives an acknowledge
 --   ReceivingOver == what holds of a list of events, from a controller and a log on
 use Prim.Native.Nat.{ℕ, _+_, _*_, _≤_}
-use mathlib.Core.Bool.{true}
+use mathlib.Core.Bool.{Bool, true, false}
 use mathlib.Core.List.{List, [], _∷_, _++_}
 use mathlib.Core.Path.{_≡_}
 use lib.Dec.{eqb, leb}
@@ -12,21 +12,21 @@ use lib.ListN.{length, getD, take}
 use Rattle.line.specs.Bits.{pick}
 use Rattle.line.specs.Frame.{Frame, Fits, slots}
 use Rattle.rules.specs.Definitions.Longest.{longestOf}
-use Rattle.rules.specs.Definitions.Registers.{BOV}
+use Rattle.rules.specs.Definitions.Registers.{CV, BOV}
 use Rattle.rules.specs.Definitions.Channels.{winnerFor}
 use Rattle.rules.specs.Definitions.Mailbox.{statusByte, laidFrom, retagged, markedCher, markedChrx}
 use Rattle.rules.specs.Definitions.Reception.{takesStart, underWay}
 use Rattle.rules.specs.Statements.Valid.{high, low, owes, Valid}
-use Rattle.rules.specs.Definitions.Attempt.{judge}
 use Rattle.rules.specs.Definitions.State.{isActive}
-use Rattle.rules.specs.Definitions.Slots.{roleIn, heard, drives, sampleOf}
+use Rattle.rules.specs.Definitions.Slots.{roleIn, heard, verdict, drives, sampleOf}
 use Rattle.rules.specs.Definitions.Run.{next}
 use Rattle.rules.specs.Statements.Observer.{accepted}
+use Rattle.rules.specs.Statements.Interrupts.{ownFrame}
 use Rattle.rules.specs.declared.Winner.{Winner}
 use Rattle.rules.specs.declared.Hearing.{Hearing}
 use Rattle.rules.specs.declared.Hearing.the-variants.{Silent, Follows, Fault, Good}
 use Rattle.rules.specs.declared.Role.{Role}
-use Rattle.rules.specs.declared.Role.the-variants.{Nobody, Receiver, Sender}
+use Rattle.rules.specs.declared.Role.the-variants.{Nobody, Receiver, Sender, Asker, Replier}
 use Rattle.rules.specs.declared.Controller.{Controller}
 use Rattle.rules.specs.declared.Event.{Event}
 use Rattle.rules.specs.declared.Event.the-variants.{Reset, Write, Read, Slot}
@@ -44,9 +44,9 @@ storedFrame m w f =
 unfoldable pub received : List ℕ → Winner → Frame → List ℕ
 received m w f = pick (w .matched) (pick (leb (length (f .bytes) + 1) (w .length)) (storedFrame m w f) (markedCher m (w .channel))) m
 
--- 0x07: BOV where it is "otherwise valid but doesn't fit"; else it stays
-unfoldable pub errorAfter : ℕ → Winner → Frame → ℕ
-errorAfter x w f = pick (w .matched) (pick (leb (length (f .bytes) + 1) (w .length)) x BOV) x
+-- 0x07: BOV where it is "otherwise valid but doesn't fit"; u where no channel takes it; else it stays
+unfoldable pub errorAfter : ℕ → ℕ → Winner → Frame → ℕ
+errorAfter x u w f = pick (w .matched) (pick (leb (length (f .bytes) + 1) (w .length)) x BOV) u
 
 -- ---- the log
 
@@ -81,11 +81,27 @@ taker l f = winnerFor (l .held) (high f) (low f)
 abbrev pub role : Controller → Role
 role c = roleIn (c .core)
 
+-- a frame of another module, the answer to the model's own request among them (02, Req 01)
+unfoldable pub receives : Role → Bool
+receives Nobody = false
+receives Receiver = true
+receives Sender = false
+receives Asker = true
+receives Replier = false
+
+-- a good frame that no channel takes leaves 0x07; an answer "where none takes it" is CV (02, Req 01)
+unfoldable pub untaken : Role → ℕ → ℕ
+untaken Nobody x = x
+untaken Receiver x = x
+untaken Sender x = x
+untaken Asker x = CV
+untaken Replier x = x
+
 -- ---- a slot
 
 -- what the sample of a slot is for the line and the frame under way
 abbrev pub hears : Controller → ℕ → Hearing
-hears c levels = heard (c .core) (judge (c .core .service .effort) (sampleOf c levels)) (sampleOf c levels)
+hears c levels = heard (c .core) (verdict (c .core) (sampleOf c levels)) (sampleOf c levels)
 
 -- a slot of an active controller, whoever sends
 pub record Heeds (c : Controller) (levels : ℕ) : Type 0 where
@@ -94,7 +110,7 @@ pub record Heeds (c : Controller) (levels : ℕ) : Type 0 where
   -- a frame that follows stays under way, unless the controller becomes idle
   pub kept : hears c levels ≡ Follows → isActive (next c (Slot levels) .core .activity .mode) ≡ true → underWay (next c (Slot levels) .core .reception .place) ≡ true
   -- a byte of the mailbox changes in no slot but another module's
-  pub mailbox : (role c ≡ Receiver → ⊥) → (a : ℕ) → 128 ≤ a → getD (next c (Slot levels) .memory) a 0 ≡ getD (c .memory) a 0
+  pub mailbox : receives (role c) ≡ false → (a : ℕ) → 128 ≤ a → getD (next c (Slot levels) .memory) a 0 ≡ getD (c .memory) a 0
 
 -- the samples are a valid frame, whole, and the memory map shows it
 pub record Taken (c : Controller) (l : Log) (levels : ℕ) : Type 0 where
@@ -102,8 +118,10 @@ pub record Taken (c : Controller) (l : Log) (levels : ℕ) : Type 0 where
   pub fits : Fits (longestOf (c .core)) frame
   pub whole : l .samples ++ (sampleOf c levels ∷ []) ≡ slots frame
   pub valid : Valid (taker l frame) frame
-  pub memory : next c (Slot levels) .memory ≡ received (c .memory) (taker l frame) frame
-  pub error : next c (Slot levels) .core .report .error ≡ errorAfter (c .core .report .error) (taker l frame) frame
+  -- the end of an answered request marks its own channel beside
+  pub memory : role c ≡ Receiver → next c (Slot levels) .memory ≡ received (c .memory) (taker l frame) frame
+  pub mailbox : (a : ℕ) → 128 ≤ a → getD (next c (Slot levels) .memory) a 0 ≡ getD (received (c .memory) (taker l frame) frame) a 0
+  pub error : next c (Slot levels) .core .report .error ≡ errorAfter (c .core .report .error) (untaken (role c) (c .core .report .error)) (taker l frame) frame
 
 -- a slot of a frame that another module sends
 pub record Delivers (c : Controller) (l : Log) (levels : ℕ) : Type 0 where
@@ -123,7 +141,7 @@ abbrev pub DeliversIn : Controller → Log → Event → Type 0
 DeliversIn c l Reset = Unit {0}
 DeliversIn c l (Write address value) = Unit {0}
 DeliversIn c l (Read address) = Unit {0}
-DeliversIn c l (Slot levels) = accepted c (Slot levels) ≡ true → isActive (c .core .activity .mode) ≡ true → Heeds c levels × (role c ≡ Receiver → Delivers c l levels)
+DeliversIn c l (Slot levels) = accepted c (Slot levels) ≡ true → isActive (c .core .activity .mode) ≡ true → Heeds c levels × (receives (role c) ≡ true → Delivers c l levels)
 
 -- ---- the acknowledge
 
@@ -137,10 +155,10 @@ pub record Owing (longest : ℕ) (l : Log) : Type 0 where
   pub samples : l .samples ≡ take (50 + 10 * length (frame .bytes)) (slots frame) ++ (first ∷ [])
 
 pub record Acknowledges (c : Controller) (l : Log) : Type 0 where
-  -- the level for the next slot is dominant and the model isn't the sender: such a frame stands there
-  pub only : drives (c .core) ≡ 0 → (role c ≡ Sender → ⊥) → Owing (longestOf (c .core)) l
+  -- the level for the next slot is dominant and the model drives no frame of its own: such a frame stands there
+  pub only : drives (c .core) ≡ 0 → ownFrame (role c) ≡ false → Owing (longestOf (c .core)) l
   -- and where one does, with nine slots to come, the level is dominant
-  pub due : role c ≡ Receiver → (f : Frame) → Fits (longestOf (c .core)) f → owes (taker l f) f ≡ true → (rest : List ℕ) → length rest ≡ 9 → l .samples ++ rest ≡ slots f → drives (c .core) ≡ 0
+  pub due : receives (role c) ≡ true → (f : Frame) → Fits (longestOf (c .core)) f → owes (taker l f) f ≡ true → (rest : List ℕ) → length rest ≡ 9 → l .samples ++ rest ≡ slots f → drives (c .core) ≡ 0
 
 -- ---- every event
 

@@ -15,12 +15,12 @@ use Rattle.rules.specs.Definitions.Attempt.{largest}
 use Rattle.rules.specs.Definitions.State.{isActive, serving}
 use Rattle.rules.specs.Definitions.Slots.{roleIn, drives}
 use Rattle.rules.specs.Definitions.Run.{next}
-use Rattle.rules.specs.Statements.Tally.{Stand, away, between, opening, inside, Tally, isAway}
-use Rattle.rules.specs.Statements.Observer.{freeO, startsO, Observer, accepted, seenO, nextO}
+use Rattle.rules.specs.Statements.Tally.{Stand, away, between, opening, inside, answered, Tally, requestT, isAway}
+use Rattle.rules.specs.Statements.Observer.{freeO, startsO, Replying, silent, replies, Observer, accepted, seenO, nextO}
 use Rattle.rules.specs.declared.Place.{Place}
 use Rattle.rules.specs.declared.Service.{Service}
 use Rattle.rules.specs.declared.Role.{Role}
-use Rattle.rules.specs.declared.Role.the-variants.{Nobody, Receiver, Sender}
+use Rattle.rules.specs.declared.Role.the-variants.{Nobody, Receiver, Sender, Asker, Replier}
 use Rattle.rules.specs.declared.Controller.{Controller}
 use Rattle.rules.specs.declared.Event.{Event}
 use Rattle.rules.specs.declared.Event.the-variants.{Reset, Write, Read, Slot}
@@ -28,22 +28,32 @@ use Rattle.rules.specs.declared.Event.the-variants.{Reset, Write, Read, 
 -- ---- the controller stands as the observer says
 
 -- the level of the next slot of an active controller: in an attempt the fixed frame's next, else dominant only where an acknowledge is owed (Receiving.antt, Acknowledges)
+unfoldable pub levelApart : Replying → Observer → ℕ
+levelApart silent o = receiverLevel (o .frame)
+levelApart (replies c f k) o = getD (slots f) k 1
+
 unfoldable pub levelIn : Stand → Observer → ℕ
-levelIn away o = receiverLevel (o .frame)
-levelIn between o = receiverLevel (o .frame)
+levelIn away o = levelApart (o .reply) o
+levelIn between o = levelApart (o .reply) o
 levelIn (opening start) o = getD (slots (o .tally .frame)) start 1
 levelIn (inside start levels) o = getD (slots (o .tally .frame)) (start + length levels) 1
+levelIn (answered start n) o = receiverLevel (o .frame)
 
 -- idle and asleep: recessive
 unfoldable pub levelO : Observer → ℕ
 levelO o = pick (isActive (o .activity .mode)) (levelIn (o .tally .stand) o) 1
 
 -- what the model is in the frame under way
-unfoldable pub roleAs : Stand → Place → Role
-roleAs away here = pick (underWay here) Receiver Nobody
-roleAs between here = pick (underWay here) Receiver Nobody
-roleAs (opening start) here = Sender
-roleAs (inside start levels) here = Sender
+unfoldable pub roleApart : Replying → Place → Role
+roleApart silent here = pick (underWay here) Receiver Nobody
+roleApart (replies c f k) here = Replier
+
+unfoldable pub roleAs : Stand → Replying → Place → Role
+roleAs away y here = roleApart y here
+roleAs between y here = roleApart y here
+roleAs (opening start) y here = Sender
+roleAs (inside start levels) y here = Sender
+roleAs (answered start n) y here = Asker
 
 -- "only stored counts stop at their largest"
 pub record Counted (s : Service) (t : Tally) : Type 0 where
@@ -58,7 +68,7 @@ pub record Agrees (c : Controller) (o : Observer) : Type 0 where
   pub free-line : free (c .core .line) ≡ freeO (o .line)
   pub start-taken : takesStart (c .core .line) ≡ startsO (o .line)
   pub frame : c .core .reception ≡ o .frame
-  pub role : roleIn (c .core) ≡ roleAs (o .tally .stand) (o .frame .place)
+  pub role : roleIn (c .core) ≡ roleAs (o .tally .stand) (o .reply) (o .frame .place)
   pub service : serving (c .core .service) ≡ not (isAway (o .tally .stand))
   pub counts : isAway (o .tally .stand) ≡ false → Counted (c .core .service) (o .tally)
   pub level : drives (c .core) ≡ levelO o
@@ -81,6 +91,7 @@ Drives away f d = Unit {0}
 Drives between f d = Unit {0}
 Drives (opening start) f d = Origin start × Opens (d ∷ []) (drop start (slots f))
 Drives (inside start levels) f d = Origin start × Opens (levels ++ (d ∷ [])) (drop start (slots f))
+Drives (answered start n) f d = Unit {0}
 
 -- a slot is where an attempt goes on
 abbrev pub InSlot : Event → Type 0 → Type 0
@@ -92,6 +103,9 @@ InSlot (Slot levels) A = A
 abbrev pub te : Controller → Bool
 te c = c .core .report .flags .te
 
+unfoldable pub boundOf : ℕ → Frame → ℕ
+boundOf longest f = pick (requestT f) longest (length (f .bytes))
+
 -- o is the observer before the event, seenO c o e its tally once the sample is judged. `errors` and `slots` are facts of the tally; the others bind the model
 pub record Claim (c : Controller) (o : Observer) (e : Event) : Type 0 where
   pub agrees : Agrees c o
@@ -100,8 +114,8 @@ pub record Claim (c : Controller) (o : Observer) (e : Event) : Type 0 where
   pub driven : accepted c e ≡ true → InSlot e (Drives (o .tally .stand) (o .tally .frame) (drives (c .core)))
   -- "At most R + 1 attempts end in error."
   pub errors : seenO c o e .errors ≤ seenO c o e .setting + 1
-  -- "The slots spent in attempts are at most (C + R + 1) × (60 + 10n)."
-  pub slots : seenO c o e .slots ≤ (seenO c o e .lost + seenO c o e .setting + 1) * size (length (seenO c o e .frame .bytes))
+  -- "The slots spent in attempts are at most (C + R + 1) × (60 + 10n)."; for a request "n reads 30 in its slot bound" (02, Req 01): the longest length
+  pub slots : seenO c o e .slots ≤ (seenO c o e .lost + seenO c o e .setting + 1) * size (boundOf (longestOf (c .core)) (seenO c o e .frame))
   -- "the slot of error R + 1 leaves TE 1, and no other event turns it from 0 to 1"
   pub raised : seenO c o e .errors ≡ seenO c o e .setting + 1 → te (next c e) ≡ true
   pub only : te c ≡ false → te (next c e) ≡ true → seenO c o e .errors ≡ seenO c o e .setting + 1

@@ -11,18 +11,18 @@ use lib.Dec.{eqb, ltb, leb}
 use lib.ListN.{getD, set}
 use Rattle.line.specs.Bits.{pick}
 use Rattle.rules.specs.Definitions.Longest.{longestOf}
-use Rattle.rules.specs.Definitions.Registers.{both, either, hasBit, lineControl, command, lineStatusAt, transmissionStatus, lastMessageStatus, lastErrorStatus, interruptStatusAt, interruptReset, BOV, lineStatus, retriesByte, interruptStatus, transmitted}
+use Rattle.rules.specs.Definitions.Registers.{both, either, hasBit, lineControl, command, lineStatusAt, transmissionStatus, lastMessageStatus, lastErrorStatus, interruptStatusAt, interruptReset, BOV, CV, lineStatus, retriesByte, interruptStatus, transmitted}
 use Rattle.rules.specs.Definitions.Channels.{acknowledgeAsked}
-use Rattle.rules.specs.Definitions.Mailbox.{markedCher, markedChtx, resetMemory}
+use Rattle.rules.specs.Definitions.Mailbox.{markedCher, markedChtx, markedChrx, resetMemory}
 use Rattle.rules.specs.Definitions.Reception.{underWay, dataCount}
 use Rattle.rules.specs.Definitions.Delivery.{memoryStored}
-use Rattle.rules.specs.Definitions.Attempt.{judge}
 use Rattle.rules.specs.Definitions.State.{isActive, isAsleep, isIdle}
+use Rattle.rules.specs.Definitions.Slots as slot-rule
 use Rattle.rules.specs.Definitions.Slots.{heard, drives, sampleOf}
 use Rattle.rules.specs.Definitions.Host.{resets, sleeps}
 use Rattle.rules.specs.Definitions.Run.{step, next}
-use Rattle.rules.specs.Statements.Tally.{Stand, away, between, opening, inside, Tally, countedT, endedT, isAway, askedT}
-use Rattle.rules.specs.Statements.Observer.{Observer, hearsO, accepted, nextO}
+use Rattle.rules.specs.Statements.Tally.{Stand, away, between, opening, inside, answered, Tally, Verdict, goes, contended, failed, sent, answers, verdict, countedT, endedT, isAway, askedT}
+use Rattle.rules.specs.Statements.Observer.{Replying, silent, replies, Observer, deliveredIn, isStored, answerO, pausing, fulfilledO, hearsO, accepted, nextO}
 use Rattle.rules.specs.Statements.Sending.{levelO}
 use Rattle.rules.specs.declared.Retries.{Retries}
 use Rattle.rules.specs.declared.Reception.{Reception}
@@ -44,13 +44,6 @@ sentAll t j = both (not (isAway (t .stand))) (isAway (j .stand))
 unfoldable pub exhaustedIn : Tally → Bool
 exhaustedIn j = ltb (j .setting) (j .errors)
 
--- no attempt is under way; a first level answered and not sampled is none
-unfoldable pub pausing : Stand → Bool
-pausing away = false
-pausing between = true
-pausing (opening start) = true
-pausing (inside start levels) = false
-
 -- "exhaustion is judged first"
 unfoldable pub abortedIn : Tally → Bool
 abortedIn j = both (pausing (j .stand)) (both (not (exhaustedIn j)) (j .abort))
@@ -66,26 +59,6 @@ endedMap t j m =
 unfoldable pub retriesT : Tally → Retries
 retriesT t = record { count = pick (ltb (t .errors) (t .setting)) (t .errors) (t .setting); channel = t .channel }
 
--- ---- what another module's frame does, by what the sample is
-
--- "It fits when n + 1 is at most M_L."
-unfoldable pub fitting : Reception → Bool
-fitting r = leb (dataCount (r .nibbles) + 1) (r .winner .length)
-
--- "CHER and RE only once a channel has matched"
-unfoldable pub heardDelivery : Hearing → Reception → Delivery
-heardDelivery Silent r = Nothing
-heardDelivery Follows r = Nothing
-heardDelivery (Fault code) r = pick (r .winner .matched) Spoiled Nothing
-heardDelivery Good r = pick (r .winner .matched) (pick (fitting r) Stored Overflowed) Nothing
-
--- "The model's own frame .. is not stored, touches no receiving channel"
-unfoldable pub deliveredIn : Stand → Hearing → Reception → Delivery
-deliveredIn away h r = pick (underWay (r .place)) (heardDelivery h r) Nothing
-deliveredIn between h r = pick (underWay (r .place)) (heardDelivery h r) Nothing
-deliveredIn (opening start) h r = Nothing
-deliveredIn (inside start levels) h r = Nothing
-
 -- `memoryStored` is what Receiving.antt says of the frame that the samples are; a fault, or a frame that does not fit, sets CHER
 unfoldable pub deliveredMap : Delivery → List ℕ → Reception → List ℕ
 deliveredMap Nothing m r = m
@@ -93,33 +66,78 @@ deliveredMap Stored m r = memoryStored m r
 deliveredMap Overflowed m r = markedCher m (r .winner .channel)
 deliveredMap Spoiled m r = markedCher m (r .winner .channel)
 
-unfoldable pub isStored : Delivery → Bool
-isStored Nothing = false
-isStored Stored = true
-isStored Overflowed = false
-isStored Spoiled = false
-
 unfoldable pub isSpoiled : Delivery → Bool
 isSpoiled Nothing = false
 isSpoiled Stored = false
 isSpoiled Overflowed = true
 isSpoiled Spoiled = true
 
+-- ---- a reply of the model's own (02, Req 01)
+
+pub data Replied : Type 0 where
+  unended : Replied
+  whole : ℕ → Replied
+  broken : ℕ → Replied
+
+unfoldable pub repliedBy : Verdict → ℕ → Replied
+repliedBy goes c = unended
+repliedBy contended c = unended
+repliedBy failed c = broken c
+repliedBy sent c = whole c
+repliedBy answers c = unended
+
+unfoldable pub repliedApart : Replying → ℕ → ℕ → Replied
+repliedApart silent d v = unended
+repliedApart (replies c f k) d v = repliedBy (verdict f k d v) c
+
+unfoldable pub repliedAt : Stand → Replying → ℕ → ℕ → Replied
+repliedAt away y d v = repliedApart y d v
+repliedAt between y d v = repliedApart y d v
+repliedAt (opening start) y d v = unended
+repliedAt (inside start levels) y d v = unended
+repliedAt (answered start n) y d v = unended
+
+-- success: CHTx and CHRx; "An error in it sets CHER and RE, not TE"
+unfoldable pub repliedMap : Replied → List ℕ → List ℕ
+repliedMap unended m = m
+repliedMap (whole c) m = markedChrx (markedChtx m c) c
+repliedMap (broken c) m = markedCher m c
+
+unfoldable pub isWhole : Replied → Bool
+isWhole unended = false
+isWhole (whole c) = true
+isWhole (broken c) = false
+
+unfoldable pub isBroken : Replied → Bool
+isBroken unended = false
+isBroken (whole c) = false
+isBroken (broken c) = true
+
+-- "0x06: retries 0"
+unfoldable pub repliedMessage : Replied → Retries → Retries
+repliedMessage unended x = x
+repliedMessage (whole c) x = record { count = 0; channel = c }
+repliedMessage (broken c) x = x
+
 -- ---- a slot of an active controller
 
 module _ (c : Controller) (o : Observer) (levels : ℕ) where
   abbrev pub judgedIn : Tally
-  judgedIn = countedT (o .tally) (drives (c .core)) (sampleOf c levels)
+  judgedIn = countedT (o .tally) (drives (c .core)) (sampleOf c levels) (answerO o (longestOf (c .core)) (sampleOf c levels))
 
   abbrev pub hearingIn : Hearing
   hearingIn = hearsO o (longestOf (c .core)) (drives (c .core)) (sampleOf c levels)
 
   abbrev pub deliveryIn : Delivery
-  deliveryIn = deliveredIn (o .tally .stand) hearingIn (o .frame)
+  deliveryIn = deliveredIn (o .tally .stand) (o .reply) hearingIn (o .frame)
+
+  -- a reply of the model's own, by how the sample ends it
+  abbrev pub repliedIn : Replied
+  repliedIn = repliedAt (o .tally .stand) (o .reply) (drives (c .core)) (sampleOf c levels)
 
   -- a service is chosen: none once the sample's effects are taken, one after the slot
   abbrev pub chosenIn : Bool
-  chosenIn = both (isAway (endedT judgedIn .stand)) (not (isAway (nextO c o (Slot levels) .tally .stand)))
+  chosenIn = both (either (fulfilledO o hearingIn) (isAway (endedT judgedIn .stand))) (not (isAway (nextO c o (Slot levels) .tally .stand)))
 
 -- ---- the memory map
 
@@ -135,7 +153,11 @@ memoryO c o (Write address value) =
     (endedMap (o .tally) (askedT (o .tally) address (value % 256)) (writtenMap (c .memory) address (value % 256))))
 memoryO c o (Read address) = c .memory
 memoryO c o (Slot levels) =
-    pick (isActive (o .activity .mode)) (endedMap (o .tally) (judgedIn c o levels) (deliveredMap (deliveryIn c o levels) (c .memory) (o .frame))) (c .memory)
+    pick (isActive (o .activity .mode))
+    (repliedMap (repliedIn c o levels)
+    (pick (fulfilledO o (hearingIn c o levels)) (deliveredMap (deliveryIn c o levels) (c .memory) (o .frame))
+    (endedMap (o .tally) (judgedIn c o levels) (deliveredMap (deliveryIn c o levels) (c .memory) (o .frame)))))
+    (c .memory)
 
 -- ---- 0x05, 0x06, 0x07
 
@@ -160,9 +182,22 @@ messageO c o (Write address value) = pick (resets address (value % 256)) zeroRet
 messageO c o (Read address) = c .core .report .message
 messageO c o (Slot levels) =
     pick (isActive (o .activity .mode))
+    (repliedMessage (repliedIn c o levels)
     (pick (either (sentAll (o .tally) (judgedIn c o levels)) (exhaustedIn (judgedIn c o levels))) (retriesT (judgedIn c o levels))
-    (pick (isStored (deliveryIn c o levels)) (record { count = 0; channel = o .frame .winner .channel }) (c .core .report .message)))
+    (pick (isStored (deliveryIn c o levels)) (record { count = 0; channel = o .frame .winner .channel }) (c .core .report .message))))
     (c .core .report .message)
+
+unfoldable pub isGood : Hearing → Bool
+isGood Silent = false
+isGood Follows = false
+isGood (Fault code) = false
+isGood Good = true
+
+unfoldable pub isNothing : Delivery → Bool
+isNothing Nothing = true
+isNothing Stored = false
+isNothing Overflowed = false
+isNothing Spoiled = false
 
 unfoldable pub codeHeard : Hearing → ℕ → ℕ
 codeHeard Silent x = x
@@ -177,13 +212,22 @@ overflows Follows d = false
 overflows (Fault code) d = false
 overflows Good d = isSpoiled d
 
+-- a request answered by a frame that "none takes (CV, at the end of a good frame)" (02, Req 01)
+unfoldable pub untaken : Stand → Hearing → Delivery → Bool
+untaken away h d = false
+untaken between h d = false
+untaken (opening start) h d = false
+untaken (inside start levels) h d = false
+untaken (answered start n) h d = both (isGood h) (isNothing d)
+
 unfoldable pub errorO : Controller → Observer → Event → ℕ
 errorO c o Reset = 0
 errorO c o (Write address value) = pick (resets address (value % 256)) 0 (c .core .report .error)
 errorO c o (Read address) = c .core .report .error
 errorO c o (Slot levels) =
     pick (isActive (o .activity .mode))
-    (pick (overflows (hearingIn c o levels) (deliveryIn c o levels)) BOV (codeHeard (hearingIn c o levels) (c .core .report .error)))
+    (pick (untaken (o .tally .stand) (hearingIn c o levels) (deliveryIn c o levels)) CV
+    (pick (overflows (hearingIn c o levels) (deliveryIn c o levels)) BOV (codeHeard (hearingIn c o levels) (c .core .report .error))))
     (c .core .report .error)
 
 -- ---- 0x09, a bit
@@ -228,7 +272,7 @@ abbrev pub Hears : Controller → Observer → Event → Type 0
 Hears c o Reset = Unit {0}
 Hears c o (Write address value) = Unit {0}
 Hears c o (Read address) = Unit {0}
-Hears c o (Slot levels) = heard (c .core) (judge (c .core .service .effort) (sampleOf c levels)) (sampleOf c levels) ≡ hearingIn c o levels
+Hears c o (Slot levels) = heard (c .core) (slot-rule.verdict (c .core) (sampleOf c levels)) (sampleOf c levels) ≡ hearingIn c o levels
 
 pub record Settles (c : Controller) (o : Observer) (e : Event) : Type 0 where
   pub value : Answers c o e
@@ -239,8 +283,8 @@ pub record Settles (c : Controller) (o : Observer) (e : Event) : Type 0 where
   pub error : Settled c e (c .core .report .error) (errorO c o e) (next c e .core .report .error)
   pub rst : Settled c e (c .core .report .flags .rst) (flagO true 7 (λ levels. false) (c .core .report .flags .rst) o e) (next c e .core .report .flags .rst)
   pub te : Settled c e (c .core .report .flags .te) (flagO false 4 (λ levels. exhaustedIn (judgedIn c o levels)) (c .core .report .flags .te) o e) (next c e .core .report .flags .te)
-  pub tok : Settled c e (c .core .report .flags .tok) (flagO false 3 (λ levels. sentAll (o .tally) (judgedIn c o levels)) (c .core .report .flags .tok) o e) (next c e .core .report .flags .tok)
-  pub re : Settled c e (c .core .report .flags .re) (flagO false 2 (λ levels. isSpoiled (deliveryIn c o levels)) (c .core .report .flags .re) o e) (next c e .core .report .flags .re)
+  pub tok : Settled c e (c .core .report .flags .tok) (flagO false 3 (λ levels. either (sentAll (o .tally) (judgedIn c o levels)) (isWhole (repliedIn c o levels))) (c .core .report .flags .tok) o e) (next c e .core .report .flags .tok)
+  pub re : Settled c e (c .core .report .flags .re) (flagO false 2 (λ levels. either (isSpoiled (deliveryIn c o levels)) (isBroken (repliedIn c o levels))) (c .core .report .flags .re) o e) (next c e .core .report .flags .re)
   pub rok : Settled c e (c .core .report .flags .rok) (flagO false 1 (λ levels. both (isStored (deliveryIn c o levels)) (rak o)) (c .core .report .flags .rok) o e) (next c e .core .report .flags .rok)
   pub rnok : Settled c e (c .core .report .flags .rnok) (flagO false 0 (λ levels. both (isStored (deliveryIn c o levels)) (not (rak o))) (c .core .report .flags .rnok) o e) (next c e .core .report .flags .rnok)
 

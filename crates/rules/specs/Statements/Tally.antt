@@ -1,7 +1,8 @@
 -- Demand 3's tally (01, Sending: "Demand 3's tally is fed the run's events and driven levels; choices, starts and ends follow by these rules, not from the program's record").
 -- It is a record of its own. Beside the events and the driven levels it is given the memory map, and mode, line and frame under way as Observer.antt keeps them; never
 -- anything that the controller records. Its numbers have no largest value.
---   Stand == where a service stands: away (none), between attempts, opening (the first level of an attempt is answered), inside (the levels driven so far)
+--   Stand == where a service stands: away (none), between attempts, opening (the first level of an attempt is answered), inside (the levels driven so far), answered (the
+--     slots so far of an attempt that goes on as a reception)
 --   verdict == what a driven and a sampled level are for the attempt        countedT, endedT, chooseT, startT == a slot        askedT == a host write
 use Prim.Native.Nat.{ℕ, _+_, _*_, _/_, _%_}
 use mathlib.Core.Bool.{Bool, true, false}
@@ -28,6 +29,7 @@ pub data Stand : Type 0 where
   between : Stand
   opening : ℕ → Stand
   inside : ℕ → List ℕ → Stand
+  answered : ℕ → ℕ → Stand
 
 pub record Tally : Type 0 where
   pub stand : Stand
@@ -91,6 +93,7 @@ pub data Verdict : Type 0 where
   contended : Verdict
   failed : Verdict
   sent : Verdict
+  answers : Verdict
 
 -- "the acknowledge, whose due pattern is RAK's"
 unfoldable pub asksAcknowledge : Frame → Bool
@@ -117,11 +120,17 @@ arbitratedT Acknowledge = false
 arbitratedT EndOfFrame = false
 arbitratedT After = false
 
--- "Recessive driven and dominant sampled .. is lost contention"; "Every other difference is an error"
+-- a reply request: R/W 1 and RTR 1
+unfoldable pub requestT : Frame → Bool
+requestT f = eqb (f .command % 4) 3
+
+-- "Recessive driven and dominant sampled .. is lost contention"; "Every other difference is an error". "A requester that sees its recessive RTR driven dominant has not
+-- lost contention: the attempt goes on as a reception" (02, Req 01): RTR's first half is slot 29
 unfoldable pub verdict : Frame → ℕ → ℕ → ℕ → Verdict
 verdict f k d v =
     pick (eqb v (dueLevel f k d)) (pick (ltb (k + 1) (size (length (f .bytes)))) goes sent)
-    (pick (both (both (eqb d 1) (openHalfT (halfOf (length (f .bytes)) k))) (arbitratedT (partOf (length (f .bytes)) k))) contended failed)
+    (pick (both (eqb k 28) (requestT f)) answers
+    (pick (both (both (eqb d 1) (openHalfT (halfOf (length (f .bytes)) k))) (arbitratedT (partOf (length (f .bytes)) k))) contended failed))
 
 -- ---- a slot
 
@@ -134,15 +143,30 @@ judgedAs goes t start levels = spentT t (inside start levels)
 judgedAs contended t start levels = withLost (spentT t between) (t .lost + 1)
 judgedAs failed t start levels = withErrors (spentT t between) (t .errors + 1)
 judgedAs sent t start levels = spentT t away
+judgedAs answers t start levels = spentT t (answered start (length levels))
 
-unfoldable pub countedIn : Stand → Tally → ℕ → ℕ → Tally
-countedIn away t d v = t
-countedIn between t d v = t
-countedIn (opening start) t d v = judgedAs (verdict (t .frame) start d v) t start (d ∷ [])
-countedIn (inside start levels) t d v = judgedAs (verdict (t .frame) (start + length levels) d v) t start (levels ++ (d ∷ []))
+-- what a slot of the frame that answers a request is for it: "counts as success .. if the frame ends valid and fits the channel that takes it .., else .. as an error"; "the
+-- tally counts an answered attempt's slots to the end of that reception" (02, Req 01)
+pub data Reply : Type 0 where
+  comes : Reply
+  taken : Reply
+  wasted : Reply
 
-unfoldable pub countedT : Tally → ℕ → ℕ → Tally
-countedT t d v = countedIn (t .stand) t d v
+unfoldable pub repliedAs : Reply → Tally → ℕ → ℕ → Tally
+repliedAs comes t start n = spentT t (answered start (n + 1))
+repliedAs taken t start n = spentT t away
+repliedAs wasted t start n = withErrors (spentT t between) (t .errors + 1)
+
+-- a driven level d, a sampled level v, and y where a request is answered
+unfoldable pub countedIn : Stand → Tally → ℕ → ℕ → Reply → Tally
+countedIn away t d v y = t
+countedIn between t d v y = t
+countedIn (opening start) t d v y = judgedAs (verdict (t .frame) start d v) t start (d ∷ [])
+countedIn (inside start levels) t d v y = judgedAs (verdict (t .frame) (start + length levels) d v) t start (levels ++ (d ∷ []))
+countedIn (answered start n) t d v y = repliedAs y t start n
+
+unfoldable pub countedT : Tally → ℕ → ℕ → Reply → Tally
+countedT t d v y = countedIn (t .stand) t d v y
 
 -- between attempts a service is given up by error R + 1, by an abort or by REAR
 unfoldable pub givenUp : Tally → Bool
@@ -153,6 +177,7 @@ endedIn away t = none
 endedIn between t = pick (givenUp t) none t
 endedIn (opening start) t = pick (givenUp t) none t
 endedIn (inside start levels) t = t
+endedIn (answered start n) t = t
 
 unfoldable pub endedT : Tally → Tally
 endedT t = endedIn (t .stand) t
@@ -172,6 +197,7 @@ chooseIn away t m longest active r = pick active (pick (underWay (r .place)) t (
 chooseIn between t m longest active r = t
 chooseIn (opening start) t m longest active r = t
 chooseIn (inside start levels) t m longest active r = t
+chooseIn (answered start n) t m longest active r = t
 
 unfoldable pub chooseT : Tally → List ℕ → ℕ → Bool → Reception → Tally
 chooseT t m longest active r = chooseIn (t .stand) t m longest active r
@@ -184,6 +210,7 @@ startIn between t m isFree r =
     (pick (underWay (r .place)) t (pick (both (autonomous (getD m transmitControl 0)) isFree) (withStand t (opening 0)) t))
 startIn (opening start) t m isFree r = t
 startIn (inside start levels) t m isFree r = t
+startIn (answered start n) t m isFree r = t
 
 unfoldable pub startT : Tally → List ℕ → Bool → Reception → Tally
 startT t m isFree r = startIn (t .stand) t m isFree r
@@ -195,6 +222,7 @@ isAway away = true
 isAway between = false
 isAway (opening start) = false
 isAway (inside start levels) = false
+isAway (answered start n) = false
 
 -- "Writing CHER 1 to the channel (abort) or REAR"
 unfoldable pub asks : Tally → ℕ → ℕ → Tally
@@ -207,6 +235,7 @@ askedIn away t address v = t
 askedIn between t address v = asks t address v
 askedIn (opening start) t address v = asks t address v
 askedIn (inside start levels) t address v = asks t address v
+askedIn (answered start n) t address v = asks t address v
 
 unfoldable pub askedT : Tally → ℕ → ℕ → Tally
 askedT t address v = askedIn (t .stand) t address v

@@ -8,4 +8,5 @@ idled-spec =
     tie.close (tie.spec
     (λ c κs. tt)
     (λ c κs. tt)
-    (λ c. simp (← (c .quiet .ensures), ← (c .before .in-mode .ensures))))
+    (λ c κs. tt)
+    (λ c. simp (← (c .no-reply .ensures), ← (c .before .quiet .ensures), ← (c .before .before .in-mode .ensures))))

@@ -11,21 +11,24 @@ use lib.ListN.{length}
 use Rattle.line.specs.Bits.{pick}
 use Rattle.rules.specs.Definitions.Registers.{both}
 use Rattle.rules.specs.Definitions.Mailbox.{coded, markedCher, markedChtx}
-use Rattle.rules.specs.Definitions.Attempt.{largest, levelAt, judge, advance, atStage, drivesFrame, isDriving, betweenAttempts, isBetween}
+use Rattle.rules.specs.Definitions.Attempt.{largest, levelAt, judgeSlot, advance, atStage, drivesFrame, isDriving, betweenAttempts, isBetween}
 use Rattle.rules.specs.Definitions.Service.{resting, stopped, endingOf, memoryEnded, retriesOf, reportSending, reportJudged}
 use Rattle.rules.specs.Definitions.Slots.{serviceJudged}
 use Rattle.rules.specs.Statements.Tally as tally
-use Rattle.rules.specs.Statements.Tally.{Stand, away, between, opening, inside, Tally, goes, contended, failed, sent, verdict, spentT, judgedAs, countedIn, countedT, isAway}
-use Rattle.rules.specs.Statements.Settled.{sentAll, exhaustedIn, pausing, abortedIn, endedMap, retriesT}
+use Rattle.rules.specs.Statements.Tally.{Stand, away, between, opening, inside, answered, Tally, goes, contended, failed, sent, answers, Reply, comes, repliedAs, verdict, spentT, judgedAs, countedIn, countedT, isAway}
+use Rattle.rules.specs.Statements.Observer.{pausing}
+use Rattle.rules.specs.Statements.Settled.{sentAll, exhaustedIn, abortedIn, endedMap, retriesT}
+use Rattle.rules.proofs.Judged as judged
 use Rattle.rules.proofs.Judged.{Judged, went, lost, broke, done, slot-judged}
-use Rattle.rules.proofs.Sending.Join.{countersOf, made, serviceIn, serviceOf, kind, kind-same, stopped-made, gone-on, was-lost, has-failed, spent-slot, small, made-driving, last-level, drivenIn, isBetweenStand}
+use Rattle.rules.proofs.Sending.Join.{countersOf, made, serviceIn, serviceOf, kind, kind-same, stopped-made, gone-on, was-lost, has-failed, was-answered, answered-on, answered-off, spent-slot, small, last-level, drivenIn, attempting, Replies, on, off, well, JudgedIn}
+use Rattle.rules.proofs.Sending.Follow.{isExhausted}
 use Rattle.rules.specs.declared.Coded.{Coded}
 use Rattle.rules.specs.declared.Stage.{Stage}
-use Rattle.rules.specs.declared.Stage.the-variants.{Waiting, Opening, Sending}
+use Rattle.rules.specs.declared.Stage.the-variants.{Waiting, Opening, Sending, Receiving}
 use Rattle.rules.specs.declared.Report.{Report}
 use Rattle.rules.specs.declared.Service.{Service}
 use Rattle.rules.specs.declared.Verdict.{Verdict}
-use Rattle.rules.specs.declared.Verdict.the-variants.{Unjudged, Goes, Lost, Failed, Done}
+use Rattle.rules.specs.declared.Verdict.the-variants.{Unjudged, Goes, Lost, Failed, Done, Answered}
 use Rattle.rules.specs.declared.Ending.{Ending}
 use Rattle.rules.specs.declared.Ending.the-variants.{Going, Sent, Exhausted, Aborted, Rearbitrated}
 
@@ -57,6 +60,9 @@ stopped-in away t e h q =
     g ∙ going-is t (rw e (unfold pausing in refl)) h
 stopped-in between t e h q = pausing-is t Waiting 0 (unfold isBetween in refl) (rw e (unfold pausing in refl)) (omega arith)
 stopped-in (opening start) t e h q = pausing-is t Opening start (unfold isBetween in refl) (rw e (unfold pausing in refl)) (omega arith)
+stopped-in (answered start n) t e h q =
+    let g : stopped (made t Receiving 0) ≡ Going = unfold stopped made betweenAttempts isBetween atStage in refl in
+    g ∙ going-is t (rw e (unfold pausing in refl)) h
 stopped-in (inside start levels) t e h q =
     let g : stopped (made t Sending (start + length levels)) ≡ Going = unfold stopped made betweenAttempts isBetween atStage in refl in
     g ∙ going-is t (rw e (unfold pausing in refl)) h
@@ -99,12 +105,24 @@ retries-in away t a h = absurd (false≢true (sym (unfold isAway in a)))
 retries-in between t a h = retries-made t Waiting 0 h
 retries-in (opening start) t a h = retries-made t Opening start h
 retries-in (inside start levels) t a h = retries-made t Sending (start + length levels) h
+retries-in (answered start n) t a h = retries-made t Receiving 0 h
 
 -- a sample that is w for the attempt, and the service s once it is judged, by the tally before and after
 pub record Tells (t j : Tally) (w : Verdict) (s : Service) : Type 0 where
   pub ending : endingOf w s ≡ endT t j
+  pub exhausts : isExhausted (endingOf w s) ≡ exhaustedIn j
   pub retries : isAway (t .stand) ≡ false → retriesOf s ≡ retriesT j
   pub sending : (x : Report) → reportJudged w x s .sending ≡ pick (ltb (t .errors) (j .errors)) (retriesT j) (x .sending)
+
+pub exhausts-rest : (j : Tally) → isExhausted (restT j) ≡ exhaustedIn j
+unfolding restT
+exhausts-rest j = go (exhaustedIn j) (abortedIn j) (both (pausing (j .stand)) (j .rear))
+  where
+    go : (a b c : Bool) → isExhausted (pick a Exhausted (pick b Aborted (pick c Rearbitrated Going))) ≡ a
+    go true b c = unfold isExhausted in refl
+    go false true c = unfold isExhausted in refl
+    go false false true = unfold isExhausted in refl
+    go false false false = unfold isExhausted in refl
 
 -- errors as before
 same-errors : (t j : Tally) (x : Report) → j .errors ≡ t .errors → x .sending ≡ pick (ltb (t .errors) (j .errors)) (retriesT j) (x .sending)
@@ -123,6 +141,7 @@ module _ (t : Tally) (serving : isAway (t .stand) ≡ false) (few : t .errors �
       let r : retriesOf (serviceJudged (Failed code) (made t stage k)) ≡ retriesT j = ap retriesOf g ∙ unfold serviceOf in retries-in (j .stand) j (unfold isAway in refl) (omega arith) in
       record {
         ending = ap stopped g ∙ p ∙ on-service t j (unfold isAway in refl);
+        exhausts = ap (λ (x : Service). isExhausted (stopped x)) g ∙ ap isExhausted p ∙ exhausts-rest j;
         retries = λ y. r;
         sending = λ x. rw (lt-ltb (t .errors) (t .errors + 1) (omega arith)) r;
       }
@@ -134,6 +153,7 @@ module _ (t : Tally) (serving : isAway (t .stand) ≡ false) (few : t .errors �
       let g : serviceJudged Goes (made t stage k) ≡ serviceOf j = gone-on t stage k start levels e in
       record {
         ending = ap stopped g ∙ stopped-is j few most ∙ on-service t j (unfold isAway in refl);
+        exhausts = ap (λ (x : Service). isExhausted (stopped x)) g ∙ ap isExhausted (stopped-is j few most) ∙ exhausts-rest j;
         retries = λ y. ap retriesOf g ∙ unfold serviceOf in retries-in (j .stand) j (unfold isAway in refl) (omega arith);
         sending = λ x. same-errors t j x refl;
       }
@@ -142,28 +162,63 @@ module _ (t : Tally) (serving : isAway (t .stand) ≡ false) (few : t .errors �
       let g : serviceJudged Lost (made t stage k) ≡ serviceOf j = was-lost t stage k start levels in
       record {
         ending = ap stopped g ∙ stopped-is j few most ∙ on-service t j (unfold isAway in refl);
+        exhausts = ap (λ (x : Service). isExhausted (stopped x)) g ∙ ap isExhausted (stopped-is j few most) ∙ exhausts-rest j;
         retries = λ y. ap retriesOf g ∙ unfold serviceOf in retries-in (j .stand) j (unfold isAway in refl) (omega arith);
         sending = λ x. same-errors t j x refl;
       }
   tells-judged (broke code c) stage k start levels e = failed-tells stage k start levels code
+  tells-judged (judged.answered a b c) stage k start levels e =
+      let j : Tally = judgedAs answers t start levels in
+      let g : serviceJudged Answered (made t stage k) ≡ serviceOf j = was-answered t stage k start levels in
+      record {
+        ending = ap stopped g ∙ stopped-is j few most ∙ on-service t j (unfold isAway in refl);
+        exhausts = ap (λ (x : Service). isExhausted (stopped x)) g ∙ ap isExhausted (stopped-is j few most) ∙ exhausts-rest j;
+        retries = λ y. ap retriesOf g ∙ unfold serviceOf in retries-in (j .stand) j (unfold isAway in refl) (omega arith);
+        sending = λ x. same-errors t j x refl;
+      }
   tells-judged done stage k start levels e =
       let j : Tally = judgedAs sent t start levels in
       record {
         ending = unfold endT sentAll isAway in rw serving;
+        exhausts = unfold isExhausted exhaustedIn in sym (le-ltb (t .setting) (t .errors) few);
         retries = λ y. ap retriesOf (has-sent t stage k) ∙ retries-made (spentT t away) Waiting 0 (omega arith);
         sending = λ x. same-errors t j x refl;
       }
 
-in-attempt : (t : Tally) → isAway (t .stand) ≡ false → t .errors ≤ t .setting → t .setting ≤ 15 → (stage : Stage) (k start : ℕ) (levels : List ℕ) (v : ℕ) → isDriving stage ≡ true → k + 1 ≡ start + length levels
-    → Tells t (judgedAs (verdict (t .frame) k (levelAt (coded (t .frame)) k) v) t start levels) (judge (made t stage k .effort) v) (serviceJudged (judge (made t stage k .effort) v) (made t stage k))
-in-attempt t s g h stage k start levels v b e =
-    rw (made-driving t stage k v b, ← (kind-same (t .frame) k v)) (tells-judged t s g h (slot-judged (coded (t .frame)) k v) stage k start levels e)
+in-attempt : (t : Tally) → isAway (t .stand) ≡ false → t .errors ≤ t .setting → t .setting ≤ 15 → (stage : Stage) (k start : ℕ) (levels : List ℕ) (v : ℕ) → k + 1 ≡ start + length levels
+    → Tells t (judgedAs (verdict (t .frame) k (levelAt (coded (t .frame)) k) v) t start levels) (judgeSlot (coded (t .frame)) k v) (serviceJudged (judgeSlot (coded (t .frame)) k v) (made t stage k))
+in-attempt t s g h stage k start levels v e =
+    rw (← (kind-same (t .frame) k v)) (tells-judged t s g h (slot-judged (coded (t .frame)) k v) stage k start levels e)
+
+-- an answered attempt
+module _ (t : Tally) (serving : isAway (t .stand) ≡ false) (few : t .errors ≤ t .setting) (most : t .setting ≤ 15) (start n : ℕ) where
+  awaited-tells : {w : Verdict} {y : Reply} → Replies w y → Tells t (repliedAs y t start n) w (serviceJudged w (made t Receiving 0))
+  unfolding endingOf repliedAs spentT reportJudged
+  awaited-tells on =
+      let j : Tally = repliedAs comes t start n in
+      let g : serviceJudged Answered (made t Receiving 0) ≡ serviceOf j = answered-on t start n in
+      record {
+        ending = ap stopped g ∙ stopped-is j few most ∙ on-service t j (unfold isAway in refl);
+        exhausts = ap (λ (x : Service). isExhausted (stopped x)) g ∙ ap isExhausted (stopped-is j few most) ∙ exhausts-rest j;
+        retries = λ y. ap retriesOf g ∙ unfold serviceOf in retries-in (j .stand) j (unfold isAway in refl) (omega arith);
+        sending = λ x. same-errors t j x refl;
+      }
+  awaited-tells (off code) = unfold judgedAs in failed-tells t serving few most Receiving 0 start [] code
+  awaited-tells well =
+      let j : Tally = repliedAs tally.taken t start n in
+      record {
+        ending = unfold endT sentAll isAway in rw serving;
+        exhausts = unfold isExhausted exhaustedIn in sym (le-ltb (t .setting) (t .errors) few);
+        retries = λ y. ap retriesOf (has-sent t Receiving 0) ∙ retries-made (spentT t away) Waiting 0 (omega arith);
+        sending = λ x. same-errors t j x refl;
+      }
 
 unjudged-tells : (t : Tally) (s : Service) → s ≡ serviceOf t → t .errors ≤ t .setting → t .setting ≤ 15 → Tells t t Unjudged s
 unfolding endingOf reportJudged
 unjudged-tells t s e g h =
     record {
       ending = ap stopped e ∙ stopped-is t g h ∙ same-stand (isAway (t .stand)) refl;
+      exhausts = ap (λ (x : Service). isExhausted (stopped x)) e ∙ ap isExhausted (stopped-is t g h) ∙ exhausts-rest t;
       retries = λ a. ap retriesOf e ∙ unfold serviceOf in retries-in (t .stand) t a (omega arith);
       sending = λ x. same-errors t t x refl;
     }
@@ -172,22 +227,19 @@ unjudged-tells t s e g h =
     same-stand true a = off-service t t a
     same-stand false a = on-service t t a
 
-tells-in : (x : Stand) (t : Tally) (d v : ℕ) → t .stand ≡ x → (isAway x ≡ false → isBetweenStand x ≡ false → d ≡ drivenIn x t) → t .errors ≤ t .setting → t .setting ≤ 15
-    → Tells t (countedIn x t d v) (judge (serviceIn x t .effort) v) (serviceJudged (judge (serviceIn x t .effort) v) (serviceIn x t))
-unfolding countedIn serviceIn drivenIn isAway isBetweenStand
-tells-in away t d v e q g h =
-    let u : judge (resting .effort) v ≡ Unjudged = unfold judge resting atStage drivesFrame isDriving in refl in
-    rw u (unfold serviceJudged advance in unjudged-tells t resting (unfold serviceOf in rw e (unfold serviceIn in refl)) g h)
-tells-in between t d v e q g h =
-    let u : judge (made t Waiting 0 .effort) v ≡ Unjudged = unfold judge made atStage drivesFrame isDriving in refl in
-    rw u (unfold serviceJudged advance in unjudged-tells t (made t Waiting 0) (unfold serviceOf in rw e (unfold serviceIn in refl)) g h)
-tells-in (opening start) t d v e q g h =
-    rw (q refl refl) (in-attempt t (rw e (unfold isAway in refl)) g h Opening start start (levelAt (coded (t .frame)) start ∷ []) v (unfold isDriving in refl) (omega arith))
-tells-in (inside start levels) t d v e q g h =
-    rw (q refl refl)
-    (in-attempt t (rw e (unfold isAway in refl)) g h Sending (start + length levels) start (levels ++ (levelAt (coded (t .frame)) (start + length levels) ∷ [])) v (unfold isDriving in refl) (last-level start levels (levelAt (coded (t .frame)) (start + length levels))))
+tells-in : (x : Stand) (t : Tally) (d v : ℕ) (y : Reply) (w : Verdict) → t .stand ≡ x → JudgedIn x t v y w → (attempting x ≡ true → d ≡ drivenIn x t) → t .errors ≤ t .setting → t .setting ≤ 15
+    → Tells t (countedIn x t d v y) w (serviceJudged w (serviceIn x t))
+unfolding countedIn serviceIn drivenIn attempting
+tells-in away t d v y w e j q g h = rw j (unfold serviceJudged advance in unjudged-tells t resting (unfold serviceOf in rw e (unfold serviceIn in refl)) g h)
+tells-in between t d v y w e j q g h = rw j (unfold serviceJudged advance in unjudged-tells t (made t Waiting 0) (unfold serviceOf in rw e (unfold serviceIn in refl)) g h)
+tells-in (opening start) t d v y w e j q g h =
+    rw (j, q refl) (in-attempt t (rw e (unfold isAway in refl)) g h Opening start start (levelAt (coded (t .frame)) start ∷ []) v (omega arith))
+tells-in (inside start levels) t d v y w e j q g h =
+    rw (j, q refl)
+    (in-attempt t (rw e (unfold isAway in refl)) g h Sending (start + length levels) start (levels ++ (levelAt (coded (t .frame)) (start + length levels) ∷ [])) v (last-level start levels (levelAt (coded (t .frame)) (start + length levels))))
+tells-in (answered start n) t d v y w e j q g h = awaited-tells t (rw e (unfold isAway in refl)) g h start n j
 
-pub tells : (s : Service) (t : Tally) (d v : ℕ) → s ≡ serviceOf t → (isAway (t .stand) ≡ false → isBetweenStand (t .stand) ≡ false → d ≡ drivenIn (t .stand) t) → t .errors ≤ t .setting → t .setting ≤ 15
-    → Tells t (countedT t d v) (judge (s .effort) v) (serviceJudged (judge (s .effort) v) s)
+pub tells : (s : Service) (t : Tally) (d v : ℕ) (y : Reply) (w : Verdict) → s ≡ serviceOf t → JudgedIn (t .stand) t v y w → (attempting (t .stand) ≡ true → d ≡ drivenIn (t .stand) t) → t .errors ≤ t .setting → t .setting ≤ 15
+    → Tells t (countedT t d v y) w (serviceJudged w s)
 unfolding serviceOf countedT
-tells s t d v e q g h = rw e (tells-in (t .stand) t d v refl q g h)
+tells s t d v y w e j q g h = rw e (tells-in (t .stand) t d v y w refl j q g h)

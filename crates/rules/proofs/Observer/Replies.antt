@@ -1,0 +1,270 @@
+-- The controller's immediate reply is the observer's (02, Req 01).
+--   replyOf == the reply that the observer's stands for        ReplyFits == its frame fits        SameReply == both
+--   own-heard == what a sample is for a frame of the model's own        repliedOf == how a sample ends the reply
+use Prim.Native.Nat.{ℕ, _+_, _<_}
+use mathlib.Core.Bool.{Bool, true, false, false≢true}
+use mathlib.Core.List.{List}
+use mathlib.Core.Path.{_≡_, refl, ap, _∙_, sym, subst}
+use native.Mathlib.Omega.{arith}
+use lib.Dec.{eqb, ltb}
+use lib.ListN.{length, getD}
+use Rattle.line.specs.Bits.{pick, Below}
+use Rattle.line.specs.Frame.{Frame, Fits, size, slots}
+use Rattle.line.specs.Layout.{partOf, halfOf}
+use Rattle.rules.specs.Definitions.Longest.{capacity, longestOf}
+use Rattle.rules.specs.Definitions.Registers.{both, CV, ACKE, FCSE}
+use Rattle.rules.specs.Definitions.Channels.{bufferOf, replierFor}
+use Rattle.rules.specs.Definitions.Mailbox.{frameWith, replyFrame, coded}
+use Rattle.rules.specs.Definitions.Reception.{atPlace, quiet, isUnderWay, underWay, isBody, inBody, commandEnded, readsAsked, replyLow, begun, followIn, followed, winnerTaken}
+use Rattle.rules.specs.Definitions.Hearing.{receptionAfter}
+use Rattle.rules.specs.Definitions.Attempt.{drivesFrame, isAnswered, rtrSlot, levelAt, inCheck, inAcknowledge, differenceIn, difference, judgeSlot}
+use Rattle.rules.specs.Definitions.Service.{noReply, judgeReply, replyMoved, replied, replyBy, replyTaken, hearOwn}
+use Rattle.rules.specs.Definitions.Slots.{roleIn, replyVerdict, receptionJudged, replyAfter, drivesAs, drives}
+use Rattle.rules.specs.Statements.Tally as tally
+use Rattle.rules.specs.Statements.Tally.{goes, contended, failed, sent, answers, requestT, dueLevel, openHalfT, arbitratedT, verdict}
+use Rattle.rules.specs.Statements.Observer.{Replying, silent, replies, isReplying, codeT, hearsOwn, replyOn, replyFrom, replyApart}
+use Rattle.rules.specs.Statements.Settled.{Replied, unended, whole, broken, repliedBy, repliedApart}
+use Rattle.rules.proofs.Logic.{left}
+use Rattle.rules.proofs.Judged.{Judged, went, lost, broke, done, answered, slot-judged}
+use Rattle.rules.proofs.Roles.{role-sender, role-asker, role-replier, role-other}
+use Rattle.rules.proofs.Ranges.Bytes.{at-below, data-small, fits-with}
+use Rattle.rules.proofs.Sending.Join.{kind, open-same, arbitrated-same, due-same, request-same, kind-same}
+use Rattle.rules.proofs.Sending.Frames.{level-coded}
+use Rattle.rules.specs.declared.Choice.{Choice}
+use Rattle.rules.specs.declared.Choice.the-variants.{Nothing, Lowest}
+use Rattle.rules.specs.declared.Phase.{Phase}
+use Rattle.rules.specs.declared.Phase.the-variants.{Quiet, Start, Body, Acknowledge, End}
+use Rattle.rules.specs.declared.Reception.{Reception}
+use Rattle.rules.specs.declared.Hearing.{Hearing}
+use Rattle.rules.specs.declared.Hearing.the-variants.{Silent, Follows, Fault, Good}
+use Rattle.rules.specs.declared.Coded.{Coded}
+use Rattle.rules.specs.declared.ImmediateReply.{ImmediateReply}
+use Rattle.rules.specs.declared.Verdict.{Verdict}
+use Rattle.rules.specs.declared.Verdict.the-variants.{Unjudged, Goes, Lost, Failed, Done, Answered}
+use Rattle.rules.specs.declared.Role.{Role}
+use Rattle.rules.specs.declared.Role.the-variants.{Nobody, Receiver, Replier}
+use Rattle.rules.specs.declared.Core.{Core}
+
+-- ---- what a sample is for a frame of the model's own, an attempt's or a reply's
+
+pub own-heard : (f : Frame) (k v : ℕ) → hearOwn (judgeSlot (coded f) k v) ≡ hearsOwn (verdict f k (levelAt (coded f) k) v) (codeT f k (levelAt (coded f) k))
+unfolding judgeSlot verdict coded codeT difference differenceIn
+own-heard f k v =
+    let n : ℕ = length (f .bytes) in
+    rw (due-same f k, request-same f, open-same (halfOf n k), arbitrated-same (partOf n k))
+    (go (eqb v (dueLevel f k (levelAt (coded f) k))) (ltb (k + 1) (size n)) (both (eqb k rtrSlot) (requestT f)) (both (eqb (levelAt (coded f) k) 1) (openHalfT (halfOf n k))) (arbitratedT (partOf n k)) (inCheck (partOf n k)) (inAcknowledge (partOf n k)))
+  where
+    go : (a b r o p q s : Bool) → hearOwn (pick a (pick b Goes Done) (pick r Answered (pick (both o p) Lost (pick (both o q) (Failed FCSE) (pick s (Failed ACKE) (Failed CV))))))
+        ≡ hearsOwn (pick a (pick b goes sent) (pick r answers (pick (both o p) contended failed))) (pick (both o q) FCSE (pick s ACKE CV))
+    go true true r o p q s = unfold hearOwn hearsOwn in refl
+    go true false r o p q s = unfold hearOwn hearsOwn in refl
+    go false b true o p q s = unfold hearOwn hearsOwn in refl
+    go false b false true true q s = unfold hearOwn hearsOwn in refl
+    go false b false true false true s = unfold hearOwn hearsOwn in refl
+    go false b false true false false true = unfold hearOwn hearsOwn in refl
+    go false b false true false false false = unfold hearOwn hearsOwn in refl
+    go false b false false p q true = unfold hearOwn hearsOwn in refl
+    go false b false false p q false = unfold hearOwn hearsOwn in refl
+
+-- ---- the reply that the observer's stands for
+
+unfoldable pub replyOf : Replying → ImmediateReply
+replyOf silent = noReply
+replyOf (replies c f k) = record { going = true; channel = c; at = k; frame = coded f }
+
+pub going-of : (y : Replying) → replyOf y .going ≡ isReplying y
+unfolding replyOf isReplying noReply
+going-of silent = refl
+going-of (replies c f k) = refl
+
+abbrev pub ReplyFits : Replying → Type 0
+ReplyFits silent = Unit {0}
+ReplyFits (replies c f k) = Fits capacity f × (f .acknowledge ≡ false)
+
+pub record SameReply (x : ImmediateReply) (y : Replying) : Type 0 where
+  pub stands : x ≡ replyOf y
+  pub fits : ReplyFits y
+
+pub no-reply : SameReply noReply silent
+no-reply = record { stands = unfold replyOf in refl; fits = tt }
+
+pub same-going : {x : ImmediateReply} {y : Replying} → SameReply x y → x .going ≡ isReplying y
+same-going {x} {y} s = ap (λ (z : ImmediateReply). z .going) (s .stands) ∙ going-of y
+
+-- ---- it goes on, or it ends
+
+ends-judged : {x : Coded} {i v : ℕ} {w : Verdict} → Judged x i v w → (c : ℕ) (f : Frame) (k : ℕ) → replied w (replyOf (replies c f k)) ≡ replyOf (replyOn (kind w) c f k)
+unfolding replied replyMoved kind replyOn replyOf
+ends-judged (went a b) c f k = refl
+ends-judged (lost a b d) c f k = refl
+ends-judged (broke code b) c f k = refl
+ends-judged done c f k = refl
+ends-judged (answered a b d) c f k = refl
+
+on-fits : (w : tally.Verdict) (c : ℕ) (f : Frame) (k : ℕ) → ReplyFits (replies c f k) → ReplyFits (replyOn w c f k)
+unfolding replyOn
+on-fits goes c f k h = h
+on-fits contended c f k h = tt
+on-fits failed c f k h = tt
+on-fits sent c f k h = tt
+on-fits answers c f k h = tt
+
+on-stands : (c : ℕ) (f : Frame) (k v : ℕ) → replied (judgeSlot (coded f) k v) (replyOf (replies c f k)) ≡ replyOf (replyOn (verdict f k (levelAt (coded f) k) v) c f k)
+on-stands c f k v = ends-judged (slot-judged (coded f) k v) c f k ∙ ap (λ (w : tally.Verdict). replyOf (replyOn w c f k)) (kind-same f k v)
+
+-- ---- it is taken in the R/W slot
+
+from-stands : (m : List ℕ) (high low : ℕ) (x : Choice) → replyBy m high low x ≡ replyOf (replyFrom m high low x)
+unfolding replyBy replyFrom replyOf
+from-stands m high low Nothing = refl
+from-stands m high low (Lowest c) = refl
+
+from-fits : {m : List ℕ} → Below 256 m → (high low : ℕ) → high < 256 → low < 256 → (x : Choice) → ReplyFits (replyFrom m high low x)
+unfolding replyFrom replyFrame
+from-fits b high low h l Nothing = tt
+from-fits {m} b high low h l (Lowest c) = (fits-with m c high low _ b h l (data-small (bufferOf m c .length)), unfold frameWith in refl)
+
+low-small : (r : Reception) → Below 256 (r .bytes) → replyLow r < 256
+unfolding replyLow
+low-small r b = let h = at-below b 1 in omega arith
+
+-- ---- no frame was under way: none has reached its R/W slot
+
+pub quiet-phase : (p : Phase) → isUnderWay p ≡ false → p ≡ Quiet
+unfolding isUnderWay
+quiet-phase Quiet e = refl
+quiet-phase Start e = absurd (false≢true (sym e))
+quiet-phase Body e = absurd (false≢true (sym e))
+quiet-phase Acknowledge e = absurd (false≢true (sym e))
+quiet-phase End e = absurd (false≢true (sym e))
+
+module _ (r : Reception) (v : ℕ) (u : underWay (r .place) ≡ false) where
+  quiet-place : r .place .phase ≡ Quiet
+  quiet-place = quiet-phase (r .place .phase) (unfold underWay in u)
+
+  quiet-after : (h : Hearing) → isBody (receptionAfter h r v .place .phase) ≡ false
+  unfolding receptionAfter
+  quiet-after Silent = rw quiet-place (unfold isBody in refl)
+  quiet-after Follows = unfold followed in rw quiet-place (unfold followIn begun atPlace isBody in refl)
+  quiet-after (Fault code) = unfold quiet atPlace isBody in refl
+  quiet-after Good = unfold quiet atPlace isBody in refl
+
+  pub quiet-unasked : (m : List ℕ) (h : Hearing) → readsAsked (receptionJudged m h r v) ≡ false
+  unfolding receptionJudged winnerTaken
+  quiet-unasked m h =
+      left readsAsked (commandEnded (receptionAfter h r v)) _ (receptionAfter h r v) false (unfold readsAsked inBody in rw (quiet-after h)) (unfold readsAsked inBody in rw (quiet-after h))
+
+-- ---- the reply after a sample, outside an attempt
+
+module _ (k : Core) (y : Replying) (s : SameReply (k .reply) y) (d : drivesFrame (k .service .effort .progress) ≡ false) (a : isAnswered (k .service .effort .progress) ≡ false) where
+  pub is-silent : y ≡ silent → k .reply .going ≡ false
+  is-silent e = same-going s ∙ rw e (unfold isReplying in refl)
+
+  module _ (c : ℕ) (f : Frame) (i : ℕ) (e : y ≡ replies c f i) where
+    stands-so : k .reply ≡ replyOf (replies c f i)
+    stands-so = s .stands ∙ ap replyOf e
+
+    fits-so : ReplyFits (replies c f i)
+    fits-so = subst ReplyFits e (s .fits)
+
+    pub is-going : k .reply .going ≡ true
+    is-going = same-going s ∙ rw e (unfold isReplying in refl)
+
+    pub is-replier : roleIn k ≡ Replier
+    is-replier = role-replier (k .service .effort .progress) (k .reply .going) (k .reception .place) d a is-going
+
+    -- the level driven is the frame's
+    pub reply-drives : drives k ≡ levelAt (coded f) i
+    unfolding drives drivesAs
+    reply-drives = ap (λ (x : Role). drivesAs x k) is-replier ∙ ap (λ (x : ImmediateReply). levelAt (x .frame) (x .at)) stands-so ∙ unfold replyOf in refl
+
+    pub reply-level : drives k ≡ getD (slots f) i 1
+    reply-level = reply-drives ∙ level-coded f (fits-so .0) (fits-so .1) i
+
+    pub reply-judged : (v : ℕ) → judgeReply (k .reply) v ≡ judgeSlot (coded f) i v
+    unfolding judgeReply
+    reply-judged v = ap (λ (x : ImmediateReply). judgeSlot (x .frame) (x .at) v) stands-so ∙ unfold replyOf in refl
+
+    replied-same : (m : List ℕ) (v : ℕ) (r : Reception) → SameReply (replyAfter (roleIn k) m k (replyVerdict (roleIn k) k v) r) (replyOn (verdict f i (drives k) v) c f i)
+    replied-same m v r =
+        record {
+          stands = rw (is-replier, reply-drives) (unfold replyAfter replyVerdict in (rw (reply-judged v, stands-so) (on-stands c f i v)));
+          fits = on-fits (verdict f i (drives k) v) c f i fits-so;
+        }
+
+  taken-same : {m : List ℕ} → Below 256 m → (r : Reception) → Below 256 (r .bytes) → y ≡ silent
+      → SameReply (pick (readsAsked r) (replyTaken m (longestOf k) r) (k .reply)) (pick (readsAsked r) (replyFrom m (getD (r .bytes) 0 0) (replyLow r) (replierFor m (longestOf k) (getD (r .bytes) 0 0) (replyLow r))) silent)
+  taken-same {m} b r g e = go (readsAsked r)
+    where
+      go : (z : Bool) → SameReply (pick z (replyTaken m (longestOf k) r) (k .reply)) (pick z (replyFrom m (getD (r .bytes) 0 0) (replyLow r) (replierFor m (longestOf k) (getD (r .bytes) 0 0) (replyLow r))) silent)
+      go true = record { stands = unfold replyTaken in from-stands m (getD (r .bytes) 0 0) (replyLow r) _; fits = from-fits b (getD (r .bytes) 0 0) (replyLow r) (at-below g 0) (low-small r g) _ }
+      go false = record { stands = s .stands ∙ ap replyOf e; fits = tt }
+
+  heard-same : {m : List ℕ} → Below 256 m → (h : Hearing) (v : ℕ) → Below 256 (receptionJudged m h (k .reception) v .bytes) → y ≡ silent
+      → SameReply (replyAfter (roleIn k) m k (replyVerdict (roleIn k) k v) (receptionJudged m h (k .reception) v)) (replyApart silent (longestOf k) m (drives k) v (receptionJudged m h (k .reception) v))
+  unfolding replyApart
+  heard-same {m} b h v g e = rw (role-other (k .service .effort .progress) (k .reply .going) (k .reception .place) d a (is-silent e)) (go (underWay (k .reception .place)) refl)
+    where
+      go : (u : Bool) → underWay (k .reception .place) ≡ u
+          → SameReply (replyAfter (pick u Receiver Nobody) m k (replyVerdict (pick u Receiver Nobody) k v) (receptionJudged m h (k .reception) v))
+          (pick (readsAsked (receptionJudged m h (k .reception) v)) (replyFrom m (getD (receptionJudged m h (k .reception) v .bytes) 0 0) (replyLow (receptionJudged m h (k .reception) v)) (replierFor m (longestOf k) (getD (receptionJudged m h (k .reception) v .bytes) 0 0) (replyLow (receptionJudged m h (k .reception) v)))) silent)
+      go true u = unfold replyAfter in taken-same b (receptionJudged m h (k .reception) v) g e
+      go false u = unfold replyAfter in rw (quiet-unasked (k .reception) v u m h) (record { stands = s .stands ∙ ap replyOf e; fits = tt })
+
+  pub apart-reply : {m : List ℕ} → Below 256 m → (h : Hearing) (v : ℕ) → Below 256 (receptionJudged m h (k .reception) v .bytes)
+      → SameReply (replyAfter (roleIn k) m k (replyVerdict (roleIn k) k v) (receptionJudged m h (k .reception) v)) (replyApart y (longestOf k) m (drives k) v (receptionJudged m h (k .reception) v))
+  apart-reply {m} b h v g = go y refl
+    where
+      go : (x : Replying) → y ≡ x
+          → SameReply (replyAfter (roleIn k) m k (replyVerdict (roleIn k) k v) (receptionJudged m h (k .reception) v)) (replyApart x (longestOf k) m (drives k) v (receptionJudged m h (k .reception) v))
+      go silent e = heard-same b h v g e
+      go (replies c f i) e = unfold replyApart in replied-same c f i e m v (receptionJudged m h (k .reception) v)
+
+-- inside an attempt it stays as it is
+pub own-reply : (k : Core) (y : Replying) → SameReply (k .reply) y → (m : List ℕ) (q : Verdict) (r : Reception) → drivesFrame (k .service .effort .progress) ≡ true → SameReply (replyAfter (roleIn k) m k q r) y
+own-reply k y s m q r d = rw (role-sender (k .service .effort .progress) (k .reply .going) (k .reception .place) d) (unfold replyAfter in s)
+
+pub asked-reply : (k : Core) (y : Replying) → SameReply (k .reply) y → (m : List ℕ) (q : Verdict) (r : Reception)
+    → drivesFrame (k .service .effort .progress) ≡ false → isAnswered (k .service .effort .progress) ≡ true → SameReply (replyAfter (roleIn k) m k q r) y
+asked-reply k y s m q r d a = rw (role-asker (k .service .effort .progress) (k .reply .going) (k .reception .place) d a) (unfold replyAfter in s)
+
+-- ---- how the sample ends it
+
+unfoldable pub repliedOf : Verdict → ℕ → Replied
+repliedOf Unjudged c = unended
+repliedOf Goes c = unended
+repliedOf Lost c = unended
+repliedOf (Failed code) c = broken c
+repliedOf Done c = whole c
+repliedOf Answered c = unended
+
+replied-kind : (w : Verdict) (c : ℕ) → repliedOf w c ≡ repliedBy (kind w) c
+unfolding repliedOf repliedBy kind
+replied-kind Unjudged c = refl
+replied-kind Goes c = refl
+replied-kind Lost c = refl
+replied-kind (Failed code) c = refl
+replied-kind Done c = refl
+replied-kind Answered c = refl
+
+pub apart-ended : (k : Core) (y : Replying) → SameReply (k .reply) y → drivesFrame (k .service .effort .progress) ≡ false → isAnswered (k .service .effort .progress) ≡ false → (v : ℕ)
+    → repliedOf (replyVerdict (roleIn k) k v) (k .reply .channel) ≡ repliedApart y (drives k) v
+apart-ended k y s d a v = go y refl
+  where
+    other : (u : Bool) → repliedOf (replyVerdict (pick u Receiver Nobody) k v) (k .reply .channel) ≡ unended
+    other true = unfold replyVerdict repliedOf in refl
+    other false = unfold replyVerdict repliedOf in refl
+
+    channel-of : (c : ℕ) (f : Frame) (i : ℕ) → y ≡ replies c f i → k .reply .channel ≡ c
+    channel-of c f i e = ap (λ (x : ImmediateReply). x .channel) (s .stands ∙ ap replyOf e) ∙ unfold replyOf in refl
+
+    judged-so : (c : ℕ) (f : Frame) (i : ℕ) → y ≡ replies c f i → replyVerdict (roleIn k) k v ≡ judgeSlot (coded f) i v
+    judged-so c f i e = ap (λ (x : Role). replyVerdict x k v) (is-replier k y s d a c f i e) ∙ unfold replyVerdict in (reply-judged k y s d a c f i e v)
+
+    go : (x : Replying) → y ≡ x → repliedOf (replyVerdict (roleIn k) k v) (k .reply .channel) ≡ repliedApart x (drives k) v
+    go silent e =
+        unfold repliedApart in rw (role-other (k .service .effort .progress) (k .reply .going) (k .reception .place) d a (is-silent k y s d a e)) (other (underWay (k .reception .place)))
+    go (replies c f i) e =
+        unfold repliedApart in
+        (ap (λ (n : ℕ). repliedOf (replyVerdict (roleIn k) k v) n) (channel-of c f i e) ∙ ap (λ (w : Verdict). repliedOf w c) (judged-so c f i e) ∙ replied-kind (judgeSlot (coded f) i v) c
+        ∙ ap (λ (w : tally.Verdict). repliedBy w c) (kind-same f i v) ∙ ap (λ (n : ℕ). repliedBy (verdict f i n v) c) (sym (reply-drives k y s d a c f i e)))
