@@ -161,10 +161,10 @@ module _ (k : Core) (o : Observer) (s : SameCore k o) (w : Verdict) (v : ℕ) wh
     where
       go : (y : Replying) → o .reply ≡ y → heard k w v ≡ hearsApart y o (longestOf k) (drives k) v
       go silent e = unfold hearsApart in other-heard d a (same-going (s .reply) ∙ rw e (unfold isReplying in refl))
-      go (replies c f i) e =
+      go (replies c f levels) e =
           unfold hearsApart in
-          (heard-replier k w v d a (is-going k (o .reply) (s .reply) d a c f i e) ∙ ap hearOwn (reply-judged k (o .reply) (s .reply) d a c f i e v) ∙ own-heard f i v
-          ∙ rw (reply-drives k (o .reply) (s .reply) d a c f i e))
+          (heard-replier k w v d a (is-going k (o .reply) (s .reply) d a c f levels e) ∙ ap hearOwn (reply-judged k (o .reply) (s .reply) d a c f levels e v) ∙ own-heard f (28 + length levels) v
+          ∙ rw (reply-drives k (o .reply) (s .reply) d a c f levels e))
 
   own-in : (stage : Stage) (at : ℕ) → isDriving stage ≡ true → k .service ≡ made (o .tally) stage at → w ≡ judgeSlot (coded (o .tally .frame)) at v → drives k ≡ levelAt (coded (o .tally .frame)) at
       → heard k w v ≡ hearsOwn (verdict (o .tally .frame) at (drives k) v) (codeT (o .tally .frame) at (drives k))
@@ -590,14 +590,14 @@ module _ (c : Controller) (o : Observer) (s : Same c o) where
     where
       go : (y : Replying) → o .reply ≡ y → roleIn (c .core) ≡ roleApart y (c .core .reception .place)
       go silent e = unfold roleApart in role-other (c .core .service .effort .progress) (c .core .reply .going) (c .core .reception .place) d a (same-going (s .core .reply) ∙ rw e (unfold isReplying in refl))
-      go (replies n f i) e = unfold roleApart in is-replier (c .core) (o .reply) (s .core .reply) d a n f i e
+      go (replies n f levels) e = unfold roleApart in is-replier (c .core) (o .reply) (s .core .reply) d a n f levels e
 
   apart-level : drivesFrame (c .core .service .effort .progress) ≡ false → isAnswered (c .core .service .effort .progress) ≡ false → drives (c .core) ≡ levelApart (o .reply) o
   apart-level d a = go (o .reply) refl
     where
       go : (y : Replying) → o .reply ≡ y → drives (c .core) ≡ levelApart y o
       go silent e = unfold levelApart in other-level d a (same-going (s .core .reply) ∙ rw e (unfold isReplying in refl))
-      go (replies n f i) e = unfold levelApart in reply-level (c .core) (o .reply) (s .core .reply) d a n f i e
+      go (replies n f levels) e = unfold levelApart in reply-level (c .core) (o .reply) (s .core .reply) d a n f levels e
 
   asker-level : drivesFrame (c .core .service .effort .progress) ≡ false → isAnswered (c .core .service .effort .progress) ≡ true → drives (c .core) ≡ receiverLevel (o .frame)
   unfolding drives

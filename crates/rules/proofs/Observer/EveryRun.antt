@@ -1,18 +1,20 @@
 -- Demand 3, and what every event leaves, over every list of events.
-use Prim.Native.Nat.{ℕ, _<_}
-use mathlib.Core.Bool.{Bool}
+use Prim.Native.Nat.{ℕ, _+_, _<_}
+use mathlib.Core.Bool.{Bool, true, false, false≢true}
 use mathlib.Core.List.{List, [], _∷_}
-use mathlib.Core.Path.{_≡_, refl, ap, _∙_, subst}
+use mathlib.Core.Path.{_≡_, refl, ap, _∙_, sym, subst}
+use native.Mathlib.Omega.{arith}
 use Rattle.line.specs.Bits.{pick}
 use Rattle.rules.specs.Definitions.Longest.{longestOf}
 use Rattle.rules.specs.Definitions.Hearing.{hearFrame}
+use Rattle.rules.specs.Definitions.Attempt.{atStage, isDriving, drivesFrame, isAnswering, isAnswered}
 use Rattle.rules.specs.Definitions.State.{isActive}
 use Rattle.rules.specs.Definitions.Slots.{drives, sampleOf}
 use Rattle.rules.specs.Definitions.Run.{fresh, next}
-use Rattle.rules.specs.Statements.Tally.{Tally, none, countedT}
+use Rattle.rules.specs.Statements.Tally.{Stand, away, between, opening, inside, answered, Tally, none, Reply, countedIn, countedT}
 use Rattle.rules.specs.Statements.Observer as observer
-use Rattle.rules.specs.Statements.Observer.{Observer, atReset, answerIn, answerO, accepted, seenO, nextO}
-use Rattle.rules.specs.Statements.Sending.{Claim, SendingOver}
+use Rattle.rules.specs.Statements.Observer.{Replying, silent, replies, isReplying, Observer, atReset, answerIn, answerO, accepted, seenO, nextO}
+use Rattle.rules.specs.Statements.Sending.{InSlot, DrivesReply, Outside, te, Claim, SendingOver}
 use Rattle.rules.specs.Statements.Settled.{SettledOver}
 use Rattle.rules.proofs.Steps.{step-of}
 use Rattle.rules.proofs.Ranges.Limits.{Fine}
@@ -20,11 +22,15 @@ use Rattle.rules.proofs.Ranges.Reach.{fine-fresh, fine-next}
 use Rattle.rules.proofs.Sending.Beside as beside
 use Rattle.rules.proofs.Sending.Beside.{answerC, seenT, nextT, Holds}
 use Rattle.rules.proofs.Sending.Bound.{Coming}
+use Rattle.rules.proofs.Sending.Join.{made, serviceIn, serviceOf}
 use Rattle.rules.specs.Statements.Receiving.{Log, noLog, logNext}
 use Rattle.rules.proofs.Receiving.Answers.{Kept, kept-fresh, kept-next, coming}
 use Rattle.rules.proofs.Sending.Demand3.{Joined, claim}
 use Rattle.rules.proofs.Observer.Agreed.{Same, Followed, same-next, same-fresh, agrees}
+use Rattle.rules.proofs.Observer.Replies.{reply-level, fits-so, same-going, part-driven}
 use Rattle.rules.proofs.Observer.Settled.{settles}
+use Rattle.rules.proofs.OwnFrames.Steady.{Beside, Steady, steady-fresh, steady-next}
+use Rattle.rules.proofs.Logic.{clash, left}
 use Rattle.rules.specs.declared.Reception.{Reception}
 use Rattle.rules.specs.declared.Activity.{Activity}
 use Rattle.rules.specs.declared.Controller.{Controller}
@@ -48,8 +54,47 @@ module _ (c : Controller) (o : Observer) (s : Same c o) where
   unfolding seenT seenO
   seen-same e = ap (λ (t : Tally). pick (accepted c e) t (o .tally)) (seen-in e)
 
-  claimed : Fine c → ((v : ℕ) → v < 2 → Coming (longestOf (c .core)) (o .tally .stand) (answerC c v)) → (e : Event) → Claim c o e
-  claimed f y e =
+  -- ---- a reply under way
+
+  module _ (steady : Steady (c .core)) where
+    replying : (e : Event) → InSlot e (DrivesReply (o .reply) (longestOf (c .core)) (drives (c .core)))
+    replying Reset = tt
+    replying (Write a v) = tt
+    replying (Read a) = tt
+    replying (Slot l) = go (o .reply) refl
+      where
+        go : (y : Replying) → o .reply ≡ y → DrivesReply y (longestOf (c .core)) (drives (c .core))
+        go silent e = tt
+        go (replies n f levels) e =
+            let b = steady .beside (same-going (s .core .reply) ∙ rw e (unfold isReplying in refl)) in
+            part-driven n f levels (drives (c .core)) (reply-level (c .core) (o .reply) (s .core .reply) (b .driving) (b .asking) n f levels e)
+            (fits-so (c .core) (o .reply) (s .core .reply) (b .driving) (b .asking) n f levels e)
+
+    -- beside it the tally stands still
+    module _ (g : isReplying (o .reply) ≡ true) where
+      beside-it : Beside (c .core .service) (c .core .reception)
+      beside-it = steady .beside (same-going (s .core .reply) ∙ g)
+
+      still : (x : Stand) → c .core .service ≡ serviceIn x (o .tally) → (d v : ℕ) (y : Reply) → countedIn x (o .tally) d v y ≡ o .tally
+      unfolding countedIn serviceIn
+      still away e d v y = refl
+      still between e d v y = refl
+      still (opening start) e d v y = clash (beside-it .driving) (rw e (unfold made atStage drivesFrame isDriving in refl))
+      still (inside start levels) e d v y = clash (beside-it .driving) (rw e (unfold made atStage drivesFrame isDriving in refl))
+      still (answered start n) e d v y = clash (beside-it .asking) (rw e (unfold made atStage isAnswered isAnswering in refl))
+
+      seen-apart : (e : Event) → seenO c o e ≡ o .tally
+      unfolding seenO observer.seenIn countedT
+      seen-apart e = left (λ (t : Tally). t) (accepted c e) (observer.seenIn c o e) (o .tally) (o .tally) (in-event e) refl
+        where
+          in-event : (e : Event) → observer.seenIn c o e ≡ o .tally
+          in-event Reset = refl
+          in-event (Write a v) = refl
+          in-event (Read a) = refl
+          in-event (Slot l) = left (λ (t : Tally). t) (isActive (o .activity .mode)) _ (o .tally) (o .tally) (still (o .tally .stand) (unfold serviceOf in (s .joined .service)) _ _ _) refl
+
+  claimed : Fine c → Steady (c .core) → ((v : ℕ) → v < 2 → Coming (longestOf (c .core)) (o .tally .stand) (answerC c v)) → (e : Event) → Claim c o e
+  claimed f steady y e =
       let h : Holds c (o .tally) e = claim c (o .tally) (s .joined) f y e (step-of c e) in
       let q : seenT c (o .tally) e ≡ seenO c o e = seen-same e in
       record {
@@ -60,13 +105,30 @@ module _ (c : Controller) (o : Observer) (s : Same c o) where
         slots = rw (← q) (h .slots);
         raised = rw (← q) (h .raised);
         only = rw (← q) (h .only);
+        reply = λ x. replying steady e;
+        outside = λ g. outside g (rw (← q) (h .only));
       }
+    where
+      outside : isReplying (o .reply) ≡ true → (te c ≡ false → te (next c e) ≡ true → seenO c o e .errors ≡ seenO c o e .setting + 1) → Outside c o e
+      outside g only =
+          let z : seenO c o e ≡ o .tally = seen-apart steady g e in
+          record {
+            lost = ap (λ (t : Tally). t .lost) z;
+            errors = ap (λ (t : Tally). t .errors) z;
+            slots = ap (λ (t : Tally). t .slots) z;
+            te = λ x. go (te (next c e)) refl x;
+          }
+        where
+          go : (b : Bool) → te (next c e) ≡ b → te c ≡ false → b ≡ false
+          go true d x = absurd (let w : seenO c o e .errors ≡ seenO c o e .setting + 1 = only x d in let w2 : o .tally .errors ≡ o .tally .setting + 1 = rw (seen-apart steady g e) at w in let k = s .joined .good .errors in omega arith)
+          go false d x = refl
 
 -- ---- every list of events: controller and observer belong together, and the log says how far the answer to a request has come
 
 record Stands (c : Controller) (o : Observer) : Type 0 where
   same : Same c o
   fine : Fine c
+  steady : Steady (c .core)
   log : Log
   kept : Kept c (o .tally) log
 
@@ -82,16 +144,17 @@ module _ (c : Controller) (o : Observer) (k : Stands c o) where
       record {
         same = followed e .same;
         fine = fine-next c e (k .fine);
+        steady = steady-next c e (k .steady);
         log = logNext c (k .log) e;
         kept = subst (λ (t : Tally). Kept (next c e) t (logNext c (k .log) e)) (followed e .tally) (kept-next c (o .tally) (k .log) (k .fine) (k .same .joined) (k .kept) e);
       }
 
 stands-fresh : Stands fresh atReset
-stands-fresh = record { same = same-fresh; fine = fine-fresh; log = noLog; kept = unfold atReset in kept-fresh }
+stands-fresh = record { same = same-fresh; fine = fine-fresh; steady = steady-fresh; log = noLog; kept = unfold atReset in kept-fresh }
 
 sending-from : (c : Controller) (o : Observer) → Stands c o → (es : List Event) → SendingOver c o es
 sending-from c o k [] = agrees c o (k .same)
-sending-from c o k (e ∷ es) = (claimed c o (k .same) (k .fine) (comes-on c o k) e, sending-from (next c e) (nextO c o e) (stands-next c o k e) es)
+sending-from c o k (e ∷ es) = (claimed c o (k .same) (k .fine) (k .steady) (comes-on c o k) e, sending-from (next c e) (nextO c o e) (stands-next c o k e) es)
 
 settled-from : (c : Controller) (o : Observer) → Stands c o → (es : List Event) → SettledOver c o es
 settled-from c o k [] = tt

@@ -1,13 +1,15 @@
 -- The controller's immediate reply is the observer's (02, Req 01).
 --   replyOf == the reply that the observer's stands for        ReplyFits == its frame fits        SameReply == both
 --   own-heard == what a sample is for a frame of the model's own        repliedOf == how a sample ends the reply
-use Prim.Native.Nat.{ℕ, _+_, _<_}
+use Prim.Native.Nat.{ℕ, _+_, _*_, _≤_, _<_}
 use mathlib.Core.Bool.{Bool, true, false, false≢true}
-use mathlib.Core.List.{List}
+use mathlib.Core.List.{List, [], _∷_, _++_}
 use mathlib.Core.Path.{_≡_, refl, ap, _∙_, sym, subst}
 use native.Mathlib.Omega.{arith}
 use lib.Dec.{eqb, ltb}
-use lib.ListN.{length, getD}
+use native.Mathlib.Nat.{add-assoc}
+use native.Mathlib.Numerals.{add-one}
+use lib.ListN.{length, getD, take, drop, length-append}
 use Rattle.line.specs.Bits.{pick, Below}
 use Rattle.line.specs.Frame.{Frame, Fits, size, slots}
 use Rattle.line.specs.Layout.{partOf, halfOf}
@@ -23,6 +25,7 @@ use Rattle.rules.specs.Definitions.Slots.{roleIn, replyVerdict, receptio
 use Rattle.rules.specs.Statements.Tally as tally
 use Rattle.rules.specs.Statements.Tally.{goes, contended, failed, sent, answers, requestT, dueLevel, openHalfT, arbitratedT, verdict}
 use Rattle.rules.specs.Statements.Observer.{Replying, silent, replies, isReplying, codeT, hearsOwn, replyOn, replyFrom, replyApart}
+use Rattle.rules.specs.Statements.Sending.{DrivesPart}
 use Rattle.rules.specs.Statements.Settled.{Replied, unended, whole, broken, repliedBy, repliedApart}
 use Rattle.rules.proofs.Logic.{left}
 use Rattle.rules.proofs.Judged.{Judged, went, lost, broke, done, answered, slot-judged}
@@ -30,6 +33,8 @@ use Rattle.rules.proofs.Roles.{role-sender, role-asker, role-replier, r
 use Rattle.rules.proofs.Ranges.Bytes.{at-below, data-small, fits-with}
 use Rattle.rules.proofs.Sending.Join.{kind, open-same, arbitrated-same, due-same, request-same, kind-same}
 use Rattle.rules.proofs.Sending.Frames.{level-coded}
+use Rattle.rules.proofs.Sending.Bound as bound
+use Rattle.rules.proofs.Sending.Bound.{Verdicts, on, one-more, opens-on, verdict-of}
 use Rattle.rules.specs.declared.Choice.{Choice}
 use Rattle.rules.specs.declared.Choice.the-variants.{Nothing, Lowest}
 use Rattle.rules.specs.declared.Phase.{Phase}
@@ -70,16 +75,16 @@ own-heard f k v =
 
 unfoldable pub replyOf : Replying → ImmediateReply
 replyOf silent = noReply
-replyOf (replies c f k) = record { going = true; channel = c; at = k; frame = coded f }
+replyOf (replies c f levels) = record { going = true; channel = c; at = 28 + length levels; frame = coded f }
 
 pub going-of : (y : Replying) → replyOf y .going ≡ isReplying y
 unfolding replyOf isReplying noReply
 going-of silent = refl
-going-of (replies c f k) = refl
+going-of (replies c f levels) = refl
 
 abbrev pub ReplyFits : Replying → Type 0
 ReplyFits silent = Unit {0}
-ReplyFits (replies c f k) = Fits capacity f × (f .acknowledge ≡ false)
+ReplyFits (replies c f levels) = Fits capacity f × (f .acknowledge ≡ false) × (28 + length levels < size (length (f .bytes))) × (levels ≡ take (length levels) (drop 28 (slots f)))
 
 pub record SameReply (x : ImmediateReply) (y : Replying) : Type 0 where
   pub stands : x ≡ replyOf y
@@ -93,36 +98,51 @@ same-going {x} {y} s = ap (λ (z : ImmediateReply). z .going) (s .stands) ∙ go
 
 -- ---- it goes on, or it ends
 
-ends-judged : {x : Coded} {i v : ℕ} {w : Verdict} → Judged x i v w → (c : ℕ) (f : Frame) (k : ℕ) → replied w (replyOf (replies c f k)) ≡ replyOf (replyOn (kind w) c f k)
+ends-judged : {x : Coded} {i v : ℕ} {w : Verdict} → Judged x i v w → (c : ℕ) (f : Frame) (levels : List ℕ) (d : ℕ)
+    → replied w (replyOf (replies c f levels)) ≡ replyOf (replyOn (kind w) c f (levels ++ (d ∷ [])))
 unfolding replied replyMoved kind replyOn replyOf
-ends-judged (went a b) c f k = refl
-ends-judged (lost a b d) c f k = refl
-ends-judged (broke code b) c f k = refl
-ends-judged done c f k = refl
-ends-judged (answered a b d) c f k = refl
+ends-judged (went a b) c f levels d = rw (length-append levels (d ∷ []), add-assoc 28 (length levels) 1)
+ends-judged (lost a b e) c f levels d = refl
+ends-judged (broke code b) c f levels d = refl
+ends-judged done c f levels d = refl
+ends-judged (answered a b e) c f levels d = refl
 
-on-fits : (w : tally.Verdict) (c : ℕ) (f : Frame) (k : ℕ) → ReplyFits (replies c f k) → ReplyFits (replyOn w c f k)
-unfolding replyOn
-on-fits goes c f k h = h
-on-fits contended c f k h = tt
-on-fits failed c f k h = tt
-on-fits sent c f k h = tt
-on-fits answers c f k h = tt
+-- d is the level driven
+module _ (c : ℕ) (f : Frame) (levels : List ℕ) (d : ℕ) (q : d ≡ getD (slots f) (28 + length levels) 1) (h : ReplyFits (replies c f levels)) where
+  on-fits : {w : tally.Verdict} → Verdicts f (28 + length levels) w → ReplyFits (replyOn w c f (levels ++ (d ∷ [])))
+  unfolding replyOn
+  on-fits (on k) =
+      let n : length (levels ++ (d ∷ [])) ≡ length levels + 1 = length-append levels (d ∷ []) in
+      (h .0, h .1, omega arith, rw (n, add-one (length levels), q) (one-more f 28 levels (h .2) (h .3)))
+  on-fits bound.lost = tt
+  on-fits bound.error = tt
+  on-fits bound.last = tt
+  on-fits (bound.met k r) = tt
 
-on-stands : (c : ℕ) (f : Frame) (k v : ℕ) → replied (judgeSlot (coded f) k v) (replyOf (replies c f k)) ≡ replyOf (replyOn (verdict f k (levelAt (coded f) k) v) c f k)
-on-stands c f k v = ends-judged (slot-judged (coded f) k v) c f k ∙ ap (λ (w : tally.Verdict). replyOf (replyOn w c f k)) (kind-same f k v)
+  -- the levels of the reply, that of the slot under way included
+  pub part-driven : DrivesPart capacity f (levels ++ (d ∷ []))
+  unfolding size
+  part-driven =
+      let n : length (levels ++ (d ∷ [])) ≡ length levels + 1 = length-append levels (d ∷ []) in
+      let m : 28 + length levels < 60 + 10 * length (f .bytes) = h .2 in
+      record { fits = h .0; opens = rw q (opens-on f 28 levels (h .2) (h .3)); most = omega arith }
+
+on-stands : (c : ℕ) (f : Frame) (levels : List ℕ) (v d : ℕ)
+    → replied (judgeSlot (coded f) (28 + length levels) v) (replyOf (replies c f levels)) ≡ replyOf (replyOn (verdict f (28 + length levels) (levelAt (coded f) (28 + length levels)) v) c f (levels ++ (d ∷ [])))
+on-stands c f levels v d =
+    ends-judged (slot-judged (coded f) (28 + length levels) v) c f levels d ∙ ap (λ (w : tally.Verdict). replyOf (replyOn w c f (levels ++ (d ∷ [])))) (kind-same f (28 + length levels) v)
 
 -- ---- it is taken in the R/W slot
 
 from-stands : (m : List ℕ) (high low : ℕ) (x : Choice) → replyBy m high low x ≡ replyOf (replyFrom m high low x)
 unfolding replyBy replyFrom replyOf
 from-stands m high low Nothing = refl
-from-stands m high low (Lowest c) = refl
+from-stands m high low (Lowest c) = unfold rtrSlot in refl
 
 from-fits : {m : List ℕ} → Below 256 m → (high low : ℕ) → high < 256 → low < 256 → (x : Choice) → ReplyFits (replyFrom m high low x)
 unfolding replyFrom replyFrame
 from-fits b high low h l Nothing = tt
-from-fits {m} b high low h l (Lowest c) = (fits-with m c high low _ b h l (data-small (bufferOf m c .length)), unfold frameWith in refl)
+from-fits {m} b high low h l (Lowest c) = (fits-with m c high low _ b h l (data-small (bufferOf m c .length)), unfold frameWith in refl, unfold size in omega arith, refl)
 
 low-small : (r : Reception) → Below 256 (r .bytes) → replyLow r < 256
 unfolding replyLow
@@ -160,11 +180,11 @@ module _ (k : Core) (y : Replying) (s : SameReply (k .reply) y) (d : drivesFrame
   pub is-silent : y ≡ silent → k .reply .going ≡ false
   is-silent e = same-going s ∙ rw e (unfold isReplying in refl)
 
-  module _ (c : ℕ) (f : Frame) (i : ℕ) (e : y ≡ replies c f i) where
-    stands-so : k .reply ≡ replyOf (replies c f i)
+  module _ (c : ℕ) (f : Frame) (levels : List ℕ) (e : y ≡ replies c f levels) where
+    stands-so : k .reply ≡ replyOf (replies c f levels)
     stands-so = s .stands ∙ ap replyOf e
 
-    fits-so : ReplyFits (replies c f i)
+    pub fits-so : ReplyFits (replies c f levels)
     fits-so = subst ReplyFits e (s .fits)
 
     pub is-going : k .reply .going ≡ true
@@ -174,22 +194,27 @@ module _ (k : Core) (y : Replying) (s : SameReply (k .reply) y) (d : drivesFrame
     is-replier = role-replier (k .service .effort .progress) (k .reply .going) (k .reception .place) d a is-going
 
     -- the level driven is the frame's
-    pub reply-drives : drives k ≡ levelAt (coded f) i
+    pub reply-drives : drives k ≡ levelAt (coded f) (28 + length levels)
     unfolding drives drivesAs
     reply-drives = ap (λ (x : Role). drivesAs x k) is-replier ∙ ap (λ (x : ImmediateReply). levelAt (x .frame) (x .at)) stands-so ∙ unfold replyOf in refl
 
-    pub reply-level : drives k ≡ getD (slots f) i 1
-    reply-level = reply-drives ∙ level-coded f (fits-so .0) (fits-so .1) i
+    pub reply-level : drives k ≡ getD (slots f) (28 + length levels) 1
+    reply-level = reply-drives ∙ level-coded f (fits-so .0) (fits-so .1) (28 + length levels)
 
-    pub reply-judged : (v : ℕ) → judgeReply (k .reply) v ≡ judgeSlot (coded f) i v
+    pub reply-judged : (v : ℕ) → judgeReply (k .reply) v ≡ judgeSlot (coded f) (28 + length levels) v
     unfolding judgeReply
     reply-judged v = ap (λ (x : ImmediateReply). judgeSlot (x .frame) (x .at) v) stands-so ∙ unfold replyOf in refl
 
-    replied-same : (m : List ℕ) (v : ℕ) (r : Reception) → SameReply (replyAfter (roleIn k) m k (replyVerdict (roleIn k) k v) r) (replyOn (verdict f i (drives k) v) c f i)
+    replied-same : (m : List ℕ) (v : ℕ) (r : Reception)
+        → SameReply (replyAfter (roleIn k) m k (replyVerdict (roleIn k) k v) r) (replyOn (verdict f (28 + length levels) (drives k) v) c f (levels ++ (drives k ∷ [])))
     replied-same m v r =
         record {
-          stands = rw (is-replier, reply-drives) (unfold replyAfter replyVerdict in (rw (reply-judged v, stands-so) (on-stands c f i v)));
-          fits = on-fits (verdict f i (drives k) v) c f i fits-so;
+          stands =
+              rw is-replier
+              (unfold replyAfter replyVerdict in
+              (ap (λ (w : Verdict). replied w (k .reply)) (reply-judged v) ∙ ap (replied (judgeSlot (coded f) (28 + length levels) v)) stands-so ∙ on-stands c f levels v (drives k)
+              ∙ ap (λ (d : ℕ). replyOf (replyOn (verdict f (28 + length levels) d v) c f (levels ++ (drives k ∷ [])))) (sym reply-drives)));
+          fits = on-fits c f levels (drives k) reply-level fits-so (verdict-of f (28 + length levels) (drives k) v);
         }
 
   taken-same : {m : List ℕ} → Below 256 m → (r : Reception) → Below 256 (r .bytes) → y ≡ silent
@@ -218,7 +243,7 @@ module _ (k : Core) (y : Replying) (s : SameReply (k .reply) y) (d : drivesFrame
       go : (x : Replying) → y ≡ x
           → SameReply (replyAfter (roleIn k) m k (replyVerdict (roleIn k) k v) (receptionJudged m h (k .reception) v)) (replyApart x (longestOf k) m (drives k) v (receptionJudged m h (k .reception) v))
       go silent e = heard-same b h v g e
-      go (replies c f i) e = unfold replyApart in replied-same c f i e m v (receptionJudged m h (k .reception) v)
+      go (replies c f levels) e = unfold replyApart in replied-same c f levels e m v (receptionJudged m h (k .reception) v)
 
 -- inside an attempt it stays as it is
 pub own-reply : (k : Core) (y : Replying) → SameReply (k .reply) y → (m : List ℕ) (q : Verdict) (r : Reception) → drivesFrame (k .service .effort .progress) ≡ true → SameReply (replyAfter (roleIn k) m k q r) y
@@ -255,16 +280,16 @@ apart-ended k y s d a v = go y refl
     other true = unfold replyVerdict repliedOf in refl
     other false = unfold replyVerdict repliedOf in refl
 
-    channel-of : (c : ℕ) (f : Frame) (i : ℕ) → y ≡ replies c f i → k .reply .channel ≡ c
-    channel-of c f i e = ap (λ (x : ImmediateReply). x .channel) (s .stands ∙ ap replyOf e) ∙ unfold replyOf in refl
+    channel-of : (c : ℕ) (f : Frame) (levels : List ℕ) → y ≡ replies c f levels → k .reply .channel ≡ c
+    channel-of c f levels e = ap (λ (x : ImmediateReply). x .channel) (s .stands ∙ ap replyOf e) ∙ unfold replyOf in refl
 
-    judged-so : (c : ℕ) (f : Frame) (i : ℕ) → y ≡ replies c f i → replyVerdict (roleIn k) k v ≡ judgeSlot (coded f) i v
-    judged-so c f i e = ap (λ (x : Role). replyVerdict x k v) (is-replier k y s d a c f i e) ∙ unfold replyVerdict in (reply-judged k y s d a c f i e v)
+    judged-so : (c : ℕ) (f : Frame) (levels : List ℕ) → y ≡ replies c f levels → replyVerdict (roleIn k) k v ≡ judgeSlot (coded f) (28 + length levels) v
+    judged-so c f levels e = ap (λ (x : Role). replyVerdict x k v) (is-replier k y s d a c f levels e) ∙ unfold replyVerdict in (reply-judged k y s d a c f levels e v)
 
     go : (x : Replying) → y ≡ x → repliedOf (replyVerdict (roleIn k) k v) (k .reply .channel) ≡ repliedApart x (drives k) v
     go silent e =
         unfold repliedApart in rw (role-other (k .service .effort .progress) (k .reply .going) (k .reception .place) d a (is-silent k y s d a e)) (other (underWay (k .reception .place)))
-    go (replies c f i) e =
+    go (replies c f levels) e =
         unfold repliedApart in
-        (ap (λ (n : ℕ). repliedOf (replyVerdict (roleIn k) k v) n) (channel-of c f i e) ∙ ap (λ (w : Verdict). repliedOf w c) (judged-so c f i e) ∙ replied-kind (judgeSlot (coded f) i v) c
-        ∙ ap (λ (w : tally.Verdict). repliedBy w c) (kind-same f i v) ∙ ap (λ (n : ℕ). repliedBy (verdict f i n v) c) (sym (reply-drives k y s d a c f i e)))
+        (ap (λ (n : ℕ). repliedOf (replyVerdict (roleIn k) k v) n) (channel-of c f levels e) ∙ ap (λ (w : Verdict). repliedOf w c) (judged-so c f levels e) ∙ replied-kind (judgeSlot (coded f) (28 + length levels) v) c
+        ∙ ap (λ (w : tally.Verdict). repliedBy w c) (kind-same f (28 + length levels) v) ∙ ap (λ (n : ℕ). repliedBy (verdict f (28 + length levels) n v) c) (sym (reply-drives k y s d a c f levels e)))

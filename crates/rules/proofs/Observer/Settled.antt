@@ -84,7 +84,7 @@ delivered-apart k y h s d a = go y refl
 
     go : (x : Replying) → y ≡ x → delivers (roleIn k) h (k .reception) ≡ deliveredApart x h (k .reception)
     go silent e = unfold deliveredApart in rw (role-other (k .service .effort .progress) (k .reply .going) (k .reception .place) d a (is-silent k y s d a e)) (by (underWay (k .reception .place)))
-    go (replies c f i) e = unfold deliveredApart in rw (is-replier k y s d a c f i e) (unfold delivers in refl)
+    go (replies c f levels) e = unfold deliveredApart in rw (is-replier k y s d a c f levels e) (unfold delivers in refl)
 
 delivered-in : (x : Stand) (k : Core) (t : Tally) (y : Replying) (h : Hearing) → SameReply (k .reply) y → k .service ≡ serviceIn x t → delivers (roleIn k) h (k .reception) ≡ deliveredIn x y h (k .reception)
 unfolding serviceIn deliveredIn
@@ -357,7 +357,7 @@ apart-error silent h x r = by (underWay (r .place))
     by : (u : Bool) → P (pick u (heardDelivery h r) Nothing)
     by true = heard-error h x r
     by false = none-error h x r
-apart-error (replies c f i) h x r = none-error h x r
+apart-error (replies c f levels) h x r = none-error h x r
 
 -- w and h are what the sample is for the attempt and for the line
 error-in : (z : Stand) (k : Core) (t : Tally) (y : Replying) (v : ℕ) (s : Service) → k .service ≡ serviceIn z t → JudgedIn z t v (answerIn (hearFrame (k .reception) (longestOf k) v) (k .reception)) (slot-rule.verdict k v)

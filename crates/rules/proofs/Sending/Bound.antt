@@ -82,11 +82,11 @@ module _ (f : Frame) (start : ℕ) (levels : List ℕ) (h : start + length level
   left-long : length levels < length (drop start (slots f))
   left-long = let l = slots-length f in let d = length-drop start (slots f) in omega arith
 
-  one-more : levels ++ (getD (slots f) (start + length levels) 1 ∷ []) ≡ take (suc (length levels)) (drop start (slots f))
+  pub one-more : levels ++ (getD (slots f) (start + length levels) 1 ∷ []) ≡ take (suc (length levels)) (drop start (slots f))
   one-more =
       sym (take-suc (drop start (slots f)) (length levels) 1 left-long ∙ rw (getD-drop start (slots f) (length levels) 1) (ap (λ (l : List ℕ). l ++ (getD (slots f) (start + length levels) 1 ∷ [])) (sym e)))
 
-  opens-on : Opens (levels ++ (getD (slots f) (start + length levels) 1 ∷ [])) (drop start (slots f))
+  pub opens-on : Opens (levels ++ (getD (slots f) (start + length levels) 1 ∷ [])) (drop start (slots f))
   opens-on = record { rest = drop (suc (length levels)) (drop start (slots f)); whole = ap (λ (l : List ℕ). l ++ drop (suc (length levels)) (drop start (slots f))) one-more ∙ take-append-drop (suc (length levels)) (drop start (slots f)) }
 
 origin-small : {start : ℕ} (n : ℕ) → Origin start → start < size n
@@ -212,7 +212,7 @@ pub data Verdicts (f : Frame) (k : ℕ) : Verdict → Type 0 where
   last : Verdicts f k sent
   met : k ≡ 28 → requestT f ≡ true → Verdicts f k answers
 
-verdict-of : (f : Frame) (k d v : ℕ) → Verdicts f k (verdict f k d v)
+pub verdict-of : (f : Frame) (k d v : ℕ) → Verdicts f k (verdict f k d v)
 unfolding verdict
 verdict-of f k d v =
     picked P (eqb v (dueLevel f k d)) _ _ (λ e. picked P (ltb (k + 1) (size (length (f .bytes)))) goes sent (λ h. on (ltb-true _ _ h)) (λ h. last))

@@ -6,7 +6,7 @@
 --   nextO == the observer after an event
 use Prim.Native.Nat.{ℕ, suc, zero, _+_, _%_}
 use mathlib.Core.Bool.{Bool, true, false, not}
-use mathlib.Core.List.{List, [], _∷_}
+use mathlib.Core.List.{List, [], _∷_, _++_}
 use lib.Dec.{eqb, leb}
 use lib.ListN.{length, getD}
 use Rattle.line.specs.Bits.{pick}
@@ -63,10 +63,10 @@ anew good = record { good = good; samples = [] }
 
 -- ---- an immediate reply (02, Req 01)
 
--- none, or its channel, its frame and how many slots of it are past
+-- none, or its channel, its frame and the levels driven of it so far, from the RTR bit on: slot 28, counted from 0
 pub data Replying : Type 0 where
   silent : Replying
-  replies : ℕ → Frame → ℕ → Replying
+  replies : ℕ → Frame → List ℕ → Replying
 
 -- ---- the observer
 
@@ -119,7 +119,7 @@ hearsOther o longest v =
 -- outside an attempt; a reply is judged as an attempt is
 unfoldable pub hearsApart : Replying → Observer → ℕ → ℕ → ℕ → Hearing
 hearsApart silent o longest d v = hearsOther o longest v
-hearsApart (replies c f k) o longest d v = hearsOwn (verdict f k d v) (codeT f k d)
+hearsApart (replies c f levels) o longest d v = hearsOwn (verdict f (28 + length levels) d v) (codeT f (28 + length levels) d)
 
 unfoldable pub hearsIn : Stand → Observer → ℕ → ℕ → ℕ → Hearing
 hearsIn away o longest d v = hearsApart (o .reply) o longest d v
@@ -147,7 +147,7 @@ heardDelivery Good r = pick (r .winner .matched) (pick (fitting r) Stored Overfl
 -- "The model's own frame .. is not stored, touches no receiving channel"
 unfoldable pub deliveredApart : Replying → Hearing → Reception → Delivery
 deliveredApart silent h r = pick (underWay (r .place)) (heardDelivery h r) Nothing
-deliveredApart (replies c f k) h r = Nothing
+deliveredApart (replies c f levels) h r = Nothing
 
 unfoldable pub deliveredIn : Stand → Replying → Hearing → Reception → Delivery
 deliveredIn away y h r = deliveredApart y h r
@@ -195,31 +195,31 @@ fulfilledT t replying r h =
 
 unfoldable pub isReplying : Replying → Bool
 isReplying silent = false
-isReplying (replies c f k) = true
+isReplying (replies c f levels) = true
 
 unfoldable pub fulfilledO : Observer → Hearing → Bool
 fulfilledO o h = fulfilledT (o .tally) (isReplying (o .reply)) (o .frame) h
 
 -- ---- the reply (02, Req 01)
 
--- it goes on, or it has ended
-unfoldable pub replyOn : Verdict → ℕ → Frame → ℕ → Replying
-replyOn goes c f k = replies c f (k + 1)
-replyOn contended c f k = silent
-replyOn failed c f k = silent
-replyOn sent c f k = silent
-replyOn answers c f k = silent
+-- it goes on, or it has ended; the level of the slot is among levels
+unfoldable pub replyOn : Verdict → ℕ → Frame → List ℕ → Replying
+replyOn goes c f levels = replies c f levels
+replyOn contended c f levels = silent
+replyOn failed c f levels = silent
+replyOn sent c f levels = silent
+replyOn answers c f levels = silent
 
--- "it and its data bytes are taken in the R/W slot (house)"; it begins with slot 29
+-- "it and its data bytes are taken in the R/W slot (house)"
 unfoldable pub replyFrom : List ℕ → ℕ → ℕ → Choice → Replying
 replyFrom m high low choice.Nothing = silent
-replyFrom m high low (choice.Lowest c) = replies c (replyFrame m c high low) 28
+replyFrom m high low (choice.Lowest c) = replies c (replyFrame m c high low) []
 
 -- r is the frame after the sample; "never in a frame that the model itself is sending"
 unfoldable pub replyApart : Replying → ℕ → List ℕ → ℕ → ℕ → Reception → Replying
 replyApart silent longest m d v r =
     pick (readsAsked r) (replyFrom m (getD (r .bytes) 0 0) (replyLow r) (replierFor m longest (getD (r .bytes) 0 0) (replyLow r))) silent
-replyApart (replies c f k) longest m d v r = replyOn (verdict f k d v) c f k
+replyApart (replies c f levels) longest m d v r = replyOn (verdict f (28 + length levels) d v) c f (levels ++ (d ∷ []))
 
 unfoldable pub replyIn : Stand → Replying → ℕ → List ℕ → ℕ → ℕ → Reception → Replying
 replyIn away y longest m d v r = replyApart y longest m d v r

@@ -1,5 +1,5 @@
 -- Demand 3, entire: one claim about the list of events.
---   Agrees == the controller stands as the observer says        Claim == what holds of an event
+--   Agrees == the controller stands as the observer says        Drives, DrivesReply == the levels of an attempt, of a reply        Claim == what holds of an event
 --   SendingOver == what holds of a list of events, from a controller and an observer on
 use Prim.Native.Nat.{ℕ, _+_, _*_, _≤_, min}
 use mathlib.Core.Bool.{Bool, true, false, not}
@@ -16,7 +16,7 @@ use Rattle.rules.specs.Definitions.State.{isActive, serving}
 use Rattle.rules.specs.Definitions.Slots.{roleIn, drives}
 use Rattle.rules.specs.Definitions.Run.{next}
 use Rattle.rules.specs.Statements.Tally.{Stand, away, between, opening, inside, answered, Tally, requestT, isAway}
-use Rattle.rules.specs.Statements.Observer.{freeO, startsO, Replying, silent, replies, Observer, accepted, seenO, nextO}
+use Rattle.rules.specs.Statements.Observer.{freeO, startsO, Replying, silent, replies, isReplying, Observer, accepted, seenO, nextO}
 use Rattle.rules.specs.declared.Place.{Place}
 use Rattle.rules.specs.declared.Service.{Service}
 use Rattle.rules.specs.declared.Role.{Role}
@@ -30,7 +30,7 @@ use Rattle.rules.specs.declared.Event.the-variants.{Reset, Write, Read, 
 -- the level of the next slot of an active controller: in an attempt the fixed frame's next, else dominant only where an acknowledge is owed (Receiving.antt, Acknowledges)
 unfoldable pub levelApart : Replying → Observer → ℕ
 levelApart silent o = receiverLevel (o .frame)
-levelApart (replies c f k) o = getD (slots f) k 1
+levelApart (replies c f levels) o = getD (slots f) (28 + length levels) 1
 
 unfoldable pub levelIn : Stand → Observer → ℕ
 levelIn away o = levelApart (o .reply) o
@@ -46,7 +46,7 @@ levelO o = pick (isActive (o .activity .mode)) (levelIn (o .tally .stand) o) 1
 -- what the model is in the frame under way
 unfoldable pub roleApart : Replying → Place → Role
 roleApart silent here = pick (underWay here) Receiver Nobody
-roleApart (replies c f k) here = Replier
+roleApart (replies c f levels) here = Replier
 
 unfoldable pub roleAs : Stand → Replying → Place → Role
 roleAs away y here = roleApart y here
@@ -93,6 +93,17 @@ Drives (opening start) f d = Origin start × Opens (d ∷ []) (drop start (slots
 Drives (inside start levels) f d = Origin start × Opens (levels ++ (d ∷ [])) (drop start (slots f))
 Drives (answered start n) f d = Unit {0}
 
+-- an immediate reply (02, Req 01: "starts at the RTR bit .. and lasts at most 32 + 10n slots"): levels are those of the one frame f from its RTR bit on
+pub record DrivesPart (longest : ℕ) (f : Frame) (levels : List ℕ) : Type 0 where
+  pub fits : Fits longest f
+  pub opens : Opens levels (drop 28 (slots f))
+  pub most : length levels ≤ 32 + 10 * length (f .bytes)
+
+-- the level d of the slot under way included
+abbrev pub DrivesReply : Replying → ℕ → ℕ → Type 0
+DrivesReply silent longest d = Unit {0}
+DrivesReply (replies c f levels) longest d = DrivesPart longest f (levels ++ (d ∷ []))
+
 -- a slot is where an attempt goes on
 abbrev pub InSlot : Event → Type 0 → Type 0
 InSlot Reset A = Unit {0}
@@ -105,6 +116,13 @@ te c = c .core .report .flags .te
 
 unfoldable pub boundOf : ℕ → Frame → ℕ
 boundOf longest f = pick (requestT f) longest (length (f .bytes))
+
+-- "it stands outside any service, .., counts in neither C nor errors"; "An error in it sets .. not TE" (02, Req 01)
+pub record Outside (c : Controller) (o : Observer) (e : Event) : Type 0 where
+  pub lost : seenO c o e .lost ≡ o .tally .lost
+  pub errors : seenO c o e .errors ≡ o .tally .errors
+  pub slots : seenO c o e .slots ≡ o .tally .slots
+  pub te : te c ≡ false → te (next c e) ≡ false
 
 -- o is the observer before the event, seenO c o e its tally once the sample is judged. `errors` and `slots` are facts of the tally; the others bind the model
 pub record Claim (c : Controller) (o : Observer) (e : Event) : Type 0 where
@@ -119,6 +137,9 @@ pub record Claim (c : Controller) (o : Observer) (e : Event) : Type 0 where
   -- "the slot of error R + 1 leaves TE 1, and no other event turns it from 0 to 1"
   pub raised : seenO c o e .errors ≡ seenO c o e .setting + 1 → te (next c e) ≡ true
   pub only : te c ≡ false → te (next c e) ≡ true → seenO c o e .errors ≡ seenO c o e .setting + 1
+  -- a reply under way
+  pub reply : accepted c e ≡ true → InSlot e (DrivesReply (o .reply) (longestOf (c .core)) (drives (c .core)))
+  pub outside : isReplying (o .reply) ≡ true → Outside c o e
 
 abbrev pub SendingOver : Controller → Observer → List Event → Type 0
 SendingOver c o [] = Agrees c o

@@ -8,7 +8,7 @@ use mathlib.Core.Bool.{Bool, true, false, not}
 use mathlib.Core.List.{List, [], _∷_}
 use mathlib.Core.Path.{_≡_}
 use lib.Dec.{eqb, ltb, leb}
-use lib.ListN.{getD, set}
+use lib.ListN.{length, getD, set}
 use Rattle.line.specs.Bits.{pick}
 use Rattle.rules.specs.Definitions.Longest.{longestOf}
 use Rattle.rules.specs.Definitions.Registers.{both, either, hasBit, lineControl, command, lineStatusAt, transmissionStatus, lastMessageStatus, lastErrorStatus, interruptStatusAt, interruptReset, BOV, CV, lineStatus, retriesByte, interruptStatus, transmitted}
@@ -88,7 +88,7 @@ repliedBy answers c = unended
 
 unfoldable pub repliedApart : Replying → ℕ → ℕ → Replied
 repliedApart silent d v = unended
-repliedApart (replies c f k) d v = repliedBy (verdict f k d v) c
+repliedApart (replies c f levels) d v = repliedBy (verdict f (28 + length levels) d v) c
 
 unfoldable pub repliedAt : Stand → Replying → ℕ → ℕ → Replied
 repliedAt away y d v = repliedApart y d v
