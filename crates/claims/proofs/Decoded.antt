@@ -1,5 +1,5 @@
 -- What is delivered is what the samples decode to, by the codec's own definition.
-use Prim.Native.Nat.{ℕ}
+use Prim.Native.Nat.{ℕ, _/_, _%_}
 use mathlib.Core.List.{List, [], _∷_}
 use lib.ListN.{getD}
 use mathlib.Core.Path.{_≡_, sym, _∙_, ap, subst}
@@ -11,6 +11,7 @@ use Rattle.codec.proofs.Exact.{codec}
 use Rattle.rules.specs.Definitions.Longest.{longestOf}
 use Rattle.rules.specs.Statements.Valid.{Valid}
 use Rattle.rules.specs.Definitions.Run.{fresh, next}
+use Rattle.rules.specs.Statements.OwnFrames.{statusAt}
 use Rattle.rules.specs.Statements.Receiving as rule
 use Rattle.rules.specs.Statements.Receiving.{Log, noLog, logNext, received, taker, hears, Delivers, DeliversIn, ReceivingOver}
 use Rattle.rules.proofs.Receiving.EveryRun.{delivery}
@@ -45,7 +46,9 @@ module _ (c : Controller) (l : Log) (levels : ℕ) (d : Delivers c l levels) whe
         one = λ g i q. codec (longestOf (c .core)) .one g f i (k .0) (sym q ∙ k .1);
         ends = h;
         memory = λ q. t .memory q ∙ ap (λ (x : Frame). received (c .memory) (taker l x) x) n;
-        mailbox = λ a h. t .mailbox a h ∙ ap (λ (x : Frame). getD (received (c .memory) (taker l x) x) a 0) n;
+        elsewhere = λ a h. t .elsewhere a h ∙ ap (λ (x : Frame). getD (received (c .memory) (taker l x) x) a 0) n;
+        status =
+            (t .status .0 ∙ ap (λ (x : Frame). getD (received (c .memory) (taker l x) x) (statusAt c) 0 / 8) n, t .status .1 ∙ ap (λ (x : Frame). getD (received (c .memory) (taker l x) x) (statusAt c) 0 % 2) n);
       }
 
   slot-decodes : Decodes c l levels

@@ -152,29 +152,33 @@ pub record Storing : Type 0 where
 
 pub record Receiving : Type 0 where
   -- "a valid frame that an active controller takes from another module": in the slot in which its samples decode to a frame that frame is delivered, and in no other does a mailbox byte change;
-  -- a fault is heard only where they can decode to no valid frame (specs/Decoded.antt). Of each accepted slot of an active controller that receives another module's frame:
-  --   taken: where the samples since the frame's start decode to f, f is valid, they are its slots and no other frame's, it ends here, and the memory map changes by `received`
+  -- a fault is heard only where they can decode to no valid frame (specs/Decoded.antt). Of each accepted slot of an active controller that receives another module's frame, the answer to
+  -- its own request among them:
+  --   taken: where the samples since the frame's start decode to f, f is valid, they are its slots and no other frame's, it ends here, and the memory map changes by `received`;
+  --     where an answered request ends too, CHER and CHTx of its own channel may change beside, and nothing else
   --   good: where a frame ends here as good, the samples decode to one        early: where they decode to none, no mailbox byte changes
   --   fault: where a fault is heard, the samples decode to no valid frame, whatever follows them
   pub delivered : (es : List Event) → Decoded fresh noLog es
   -- the receiver begun by a dominant slot takes a slot list exactly if it decodes to a valid frame, for every longest length that the state has room for (specs/Agree.antt)
   pub sound : (longest : ℕ) → longest ≤ capacity → (m s : List ℕ) → Below 2 s → agree.receives longest m begun s ≡ true → agree.Accepted longest m (0 ∷ s)
   pub complete : (longest : ℕ) → longest ≤ capacity → (m s : List ℕ) → Below 2 s → agree.Accepted longest m (0 ∷ s) → agree.receives longest m begun s ≡ true
-  -- "Matched and fitting, RAK 1, DRAK 0, check right: the model drives the acknowledge", and no other dominant level where it isn't the sender
+  -- "Matched and fitting, RAK 1, DRAK 0, check right: the model drives the acknowledge", and no other dominant level outside its own frames
   -- (crates/rules/specs/Statements/Receiving.antt). Before each event and after the last one (Acknowledges):
-  --   only: where the model drives dominant and is not the sender, the samples are the slots of a valid frame that is owed an acknowledge, up to it, and one more, its first slot
+  --   only: where the model drives dominant, in neither an attempt nor a reply, the samples are the slots of a valid frame that is owed an acknowledge, up to it, and one more, its first slot
   --   due: where nine slots are to come of a frame that is owed one, the model drives dominant
   -- Of each accepted slot of an active controller, whoever sends (Heeds):
   --   begins: with no frame under way a dominant sample begins one where the line takes a start        kept: a frame that follows stays under way, unless the controller becomes idle
-  --   mailbox: no mailbox byte changes, unless the model receives
-  -- Of such a slot in which the model receives (Delivers):
-  --   good: where a frame ends here as good, the samples are a whole valid frame, the memory map changes by `received` of it, and 0x07 is BOV if it does not fit, else as it was
+  --   mailbox: no mailbox byte changes, unless the frame is another module's
+  -- Of such a slot of another module's frame (Delivers):
+  --   good: where a frame ends here as good, the samples are a whole valid frame, the memory map changes by `received` of it, and 0x07 is BOV if it does not fit,
+  --     CV if it answers a request and no channel takes it, else as it was
   --   complete: where the samples are a whole frame, it ends here as good        faultless: where a fault is heard, no valid frame begins with the samples
   --   silent: the slot is never taken for a quiet line        early: where no frame ends here as good, no mailbox byte changes
   pub acknowledged : (es : List Event) → ReceivingOver fresh noLog es
   -- a closed run: the acknowledge is driven and the frame stored; and the claim above once more
   pub closed : rules.Receiving
-  -- "The model's own frame .. is not stored, touches no receiving channel and is never acknowledged by the model" (crates/rules/specs/Statements/OwnFrames.antt)
+  -- "The model's own frame .. is not stored, touches no receiving channel and is never acknowledged by the model", an attempt's and an immediate reply's
+  -- (crates/rules/specs/Statements/OwnFrames.antt)
   pub own : OwnFrames
   -- "The interrupt line is asserted when status and enable share a one"; what raises each of the six bits, and nothing else does (crates/rules/specs/Statements/Interrupts.antt)
   pub interrupts : interrupt.Interrupts
@@ -184,9 +188,9 @@ pub record Receiving : Type 0 where
 -- "After each event the memory map, the driven level and the interrupts are those the controller's data sheet and document 01 define"
 pub record EveryEvent : Type 0 where
   -- for every list of events, from what stood before, the event and the observer (Settles in crates/rules/specs/Statements/Settled.antt). Of each event:
-  --   value: an accepted slot answers the level of the next slot after the transmit inversion: the fixed frame's in an attempt, dominant where an acknowledge is owed,
+  --   value: an accepted slot answers the level of the next slot after the transmit inversion: the frame's in an attempt and in a reply, dominant where an acknowledge is owed,
   --     else recessive
-  --   memory: every byte of the map: a write changes its own byte, a reset the registers' bytes, a slot what is delivered and the marks of a service that ends
+  --   memory: every byte of the map: a write changes its own byte, a reset the registers' bytes, a slot what is delivered and the marks of a service or a reply that ends
   --   sending, message, error: the registers 0x05, 0x06, 0x07        rst, te, tok, re, rok, rnok: each bit of 0x09: raised, kept or cleared
   pub settled : (es : List Event) → SettledOver fresh atReset es
 
@@ -202,8 +206,11 @@ pub record Sending : Type 0 where
   --     memory map, the levels driven and sampled, whether an event was accepted and the longest data length
   --   fits: the frame of the service under way is a frame no longer than the controller sends
   --   driven: in an accepted slot of an attempt, the levels driven in it, that of this slot included, begin the frame's slots, or those from the eleventh on where it joined
-  --   errors: at most R + 1 attempts of the service have ended in error        slots: at most (C + R + 1) × (60 + 10n) slots were spent in its attempts
+  --     an answered request drives no frame of its own from there on, and the level is that of `agrees`: at most the acknowledge
+  --   errors: at most R + 1 attempts of the service have ended in error        slots: at most (C + R + 1) × (60 + 10n) slots were spent in its attempts; n is 30 for a request
   --   raised: where R + 1 errors are counted, TE is 1 after the event        only: where the event turns TE from 0 to 1, R + 1 errors are counted
+  --   reply: in an accepted slot of a reply, the levels driven in it, that of this slot included, begin one frame's slots from its RTR bit on, and are at most 32 + 10n
+  --   outside: with a reply under way no event changes C, errors or slots of the tally, and none raises TE
   pub kept : (es : List Event) → SendingOver fresh atReset es
   -- closed runs with their figures for C, errors and slots: sent, exhausted, lost twice, joined, aborted
   pub runs : rules.Runs

@@ -1,7 +1,7 @@
 -- Delivery in the codec's own words (demand 2): what a slot of another module's frame does is what decoding its samples gives. One claim about the list of events.
 --   heardSoFar == the samples since the frame's start, that of the slot included        Taken == they decode to a valid frame, and the memory map shows it
 --   Decodes == what holds of a slot of another module's frame        Decoded == what holds of a list of events, from a controller and a log on
-use Prim.Native.Nat.{ℕ, _≤_}
+use Prim.Native.Nat.{ℕ, _/_, _%_, _≤_}
 use mathlib.Core.Bool.{true}
 use mathlib.Core.List.{List, [], _∷_, _++_}
 use mathlib.Core.Path.{_≡_}
@@ -15,6 +15,7 @@ use Rattle.rules.specs.Definitions.State.{isActive}
 use Rattle.rules.specs.Definitions.Slots.{sampleOf}
 use Rattle.rules.specs.Definitions.Run.{next}
 use Rattle.rules.specs.Statements.Observer.{accepted}
+use Rattle.rules.specs.Statements.OwnFrames.{statusAt}
 use Rattle.rules.specs.Statements.Receiving.{Log, logNext, received, taker, role, hears, receives}
 use Rattle.rules.specs.declared.Hearing.the-variants.{Fault, Good}
 use Rattle.rules.specs.declared.Role.the-variants.{Receiver}
@@ -31,9 +32,11 @@ pub record Taken (c : Controller) (l : Log) (levels : ℕ) (f : Frame) : Type 0 
   pub whole : heardSoFar c l levels ≡ slots f
   pub one : (g : Frame) → Fits (longestOf (c .core)) g → heardSoFar c l levels ≡ slots g → g ≡ f
   pub ends : hears c levels ≡ Good
-  -- the end of an answered request marks its own channel beside
   pub memory : role c ≡ Receiver → next c (Slot levels) .memory ≡ received (c .memory) (taker l f) f
-  pub mailbox : (a : ℕ) → 0x80 ≤ a → getD (next c (Slot levels) .memory) a 0 ≡ getD (received (c .memory) (taker l f) f) a 0
+  -- the end of an answered request also marks CHER and CHTx of its own channel, and nothing else
+  pub elsewhere : (a : ℕ) → (a ≡ statusAt c → ⊥) → getD (next c (Slot levels) .memory) a 0 ≡ getD (received (c .memory) (taker l f) f) a 0
+  pub status : (getD (next c (Slot levels) .memory) (statusAt c) 0 / 8 ≡ getD (received (c .memory) (taker l f) f) (statusAt c) 0 / 8)
+      × (getD (next c (Slot levels) .memory) (statusAt c) 0 % 2 ≡ getD (received (c .memory) (taker l f) f) (statusAt c) 0 % 2)
 
 -- a frame that the samples decode to
 pub record Decodable (c : Controller) (l : Log) (levels : ℕ) : Type 0 where

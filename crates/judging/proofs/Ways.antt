@@ -21,11 +21,8 @@ use Rattle.rules.specs.declared.Reception.{Reception}
 use Rattle.rules.specs.declared.Report.{Report}
 use Rattle.rules.specs.declared.Service.{Service}
 use Rattle.rules.specs.declared.Core.{Core}
+use Rattle.rules.proofs.Logic.{both-true}
 use Rattle.judging.specs.Ordinary.{passes, unmarked, goes, ordinary, Marks}
-
-both-true : (a b : Bool) → both a b ≡ true → (a ≡ true) × (b ≡ true)
-both-true true b e = (refl, e)
-both-true false b e = absurd (false≢true e)
 
 going : (x : Ending) → goes x ≡ true → x ≡ Going
 going Going e = refl

@@ -188,7 +188,15 @@ fn mark_reply(m: &mut [u8; 256], q: Verdict, c: u8)
 }
 
 // The store or CHER first, then the marks of a service that ends, then those of a reply; s has the sample counted.
-fn marked(m: &mut [u8; 256], k: Core, x: Role, w: Verdict, q: Verdict, h: Hearing, s: Service) -> Effects
+fn marked(
+    m: &mut [u8; 256],
+    k: Core,
+    x: Role,
+    w: Verdict,
+    q: Verdict,
+    h: Hearing,
+    s: Service,
+) -> Effects
     requires role { ⌜ x ≡ rule.roleIn k ⌝ }
     requires service { ⌜ s ≡ rule.serviceJudged w (k .service) ⌝ }
     ensures map { λ r. ⌜ now (m .exit) ≡ rule.memoryJudged (now (m .entry)) k w q h ⌝ }
@@ -208,7 +216,15 @@ fn marked(m: &mut [u8; 256], k: Core, x: Role, w: Verdict, q: Verdict, h: Hearin
 }
 
 // What a sample does to map, registers and service; s has the sample counted.
-fn take_effect(m: &mut [u8; 256], k: Core, x: Role, w: Verdict, q: Verdict, h: Hearing, s: Service) -> Effects
+fn take_effect(
+    m: &mut [u8; 256],
+    k: Core,
+    x: Role,
+    w: Verdict,
+    q: Verdict,
+    h: Hearing,
+    s: Service,
+) -> Effects
     requires role { ⌜ x ≡ rule.roleIn k ⌝ }
     requires service { ⌜ s ≡ rule.serviceJudged w (k .service) ⌝ }
     requires reply { ⌜ ordinary.Marks q h ⌝ }
@@ -247,7 +263,12 @@ fn reply_taken(m: &[u8; 256], r: Reception) -> ImmediateReply
 {
     let b = r.bytes;
     let low = place::reply_low(r);
-    reply_by(m, b[0], low, matching::replier_for(m, line::LONGEST, b[0], low))
+    reply_by(
+        m,
+        b[0],
+        low,
+        matching::replier_for(m, line::LONGEST, b[0], low),
+    )
 }
 
 // The reply goes on, or it has ended.

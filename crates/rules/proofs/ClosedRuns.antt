@@ -9,12 +9,14 @@ use Rattle.line.specs.LineCode.{lineCode}
 use Rattle.line.specs.Frame.{byteBits, slots, size}
 use Rattle.rules.specs.Definitions.Registers.{either, bit, readOnly, resetValues}
 use Rattle.rules.specs.Definitions.Mailbox.{rowsWritten, resetMemory}
-use Rattle.rules.specs.Definitions.Channels.{receiveMessage, requestDetection, transmitMessage, deferredReply, requestMessage, lowest, matches}
+use Rattle.rules.specs.Definitions.Channels.{receiveMessage, requestDetection, transmitMessage, deferredReply, requestMessage, awaitsReply, immediateReply, lowest, matches}
 use Rattle.rules.specs.Definitions.State.{ranges}
 use Rattle.rules.specs.Definitions.Slots.{drives}
 use Rattle.rules.specs.Definitions.Host.{lineStatusOf, resetAll}
 use Rattle.rules.specs.Definitions.Run.{fresh, step}
 use Rattle.rules.specs.Statements.Observer.{atReset}
+use Rattle.rules.specs.Statements.Tally.{requestT}
+use Rattle.rules.specs.Statements.Sending.{boundOf}
 use Rattle.rules.specs.Statements.Claims.{Runs, Courses}
 use Rattle.rules.specs.Statements.Runs.{Counts, seenOver, setUp, ones, levels, sent, echoed, overdriven, ran, listening, asking, Stored, lastAnswer, reads, sees, pin, again, sendingData, failures, overdrivenAt, refuses, readsFrom, writesFrom, framed, heardBy, offered, typesFrom, types, flipped, beyond, largestOf, lower}
 use Rattle.rules.specs.declared.Choice.the-variants.{Lowest}
@@ -473,7 +475,7 @@ pub reply-taken : sees (heardBy (Write 0x19 0x3B ∷ Write 0x1B 0x1A ∷ []) (sl
 unfolding lastAnswer ran heardBy listening ones levels framed sees reads
 reply-taken = refl
 
--- message types, for RNW, RTR, CHTx, CHRx of 0 to 15: sent, takes data, takes requests
+-- message types, for RNW, RTR, CHTx, CHRx of 0 to 15: sent, takes data, takes requests, takes replies, replies
 pub types-sent : types (λ b. either (transmitMessage b) (either (deferredReply b) (requestMessage b))) ≡ 1 ∷ 1 ∷ 0 ∷ 0 ∷ 0 ∷ 0 ∷ 0 ∷ 0 ∷ 0 ∷ 1 ∷ 0 ∷ 0 ∷ 1 ∷ 0 ∷ 0 ∷ 0 ∷ []
 unfolding transmitMessage deferredReply requestMessage types typesFrom bit
 types-sent = refl
@@ -485,6 +487,14 @@ types-of-data = refl
 pub types-of-requests : types requestDetection ≡ 0 ∷ 0 ∷ 0 ∷ 0 ∷ 0 ∷ 0 ∷ 0 ∷ 0 ∷ 0 ∷ 0 ∷ 1 ∷ 0 ∷ 0 ∷ 0 ∷ 0 ∷ 0 ∷ []
 unfolding requestDetection types typesFrom bit
 types-of-requests = refl
+
+pub types-of-replies : types awaitsReply ≡ 0 ∷ 0 ∷ 0 ∷ 0 ∷ 0 ∷ 0 ∷ 0 ∷ 0 ∷ 0 ∷ 0 ∷ 0 ∷ 0 ∷ 1 ∷ 0 ∷ 1 ∷ 0 ∷ []
+unfolding awaitsReply types typesFrom bit
+types-of-replies = refl
+
+pub types-of-repliers : types immediateReply ≡ 0 ∷ 0 ∷ 0 ∷ 0 ∷ 0 ∷ 0 ∷ 0 ∷ 0 ∷ 1 ∷ 0 ∷ 0 ∷ 0 ∷ 0 ∷ 0 ∷ 0 ∷ 0 ∷ []
+unfolding immediateReply types typesFrom bit
+types-of-repliers = refl
 
 -- a link is four bits of the pointer; DRAK is that of channel 1; a link to a link takes nothing
 pub link-high-bits : sees (heardBy (Write 0x1A 0x1D ∷ Write 0x1B 0x00 ∷ Write 0x7A 0xA0 ∷ Write 0x7B 0x1A ∷ []) (slots asking)) (0x09 ∷ 0x1B ∷ 0xA0 ∷ []) ≡ 0x82 ∷ 0x01 ∷ 0x82 ∷ []
@@ -646,6 +656,63 @@ pub reply-failed : sees (heardBy (Write 0x19 0x3A ∷ Write 0x80 0xA5 ∷ Write 
 unfolding lastAnswer ran heardBy listening ones levels framed sees reads
 reply-failed = refl
 
+-- an answer that does not fit in the last attempt: TE, CHER and CHTx at the request's channel
+pub answer-exhausts : sees (heardBy (Write 0x19 0x3B ∷ Write 0x01 0x03 ∷ Write 0x1B 0x10 ∷ []) (slots (framed 10 (0xA5 ∷ 0x3C ∷ [])))) (0x04 ∷ 0x05 ∷ 0x06 ∷ 0x09 ∷ 0x1B ∷ []) ≡ 0x00 ∷ 0x01 ∷ 0x01 ∷ 0x94 ∷ 0x16 ∷ []
+unfolding lastAnswer ran heardBy listening ones levels framed sees reads
+answer-exhausts = refl
+
+-- no reply: 1,0,1,0 of a lower channel matches; CHER is 1; EXT is 0; the frame is the model's own request
+pub reply-barred : pin (heardBy (Write 0x19 0x3A ∷ Write 0x1B 0x1A ∷ Write 0x20 0xF2 ∷ Write 0x21 0x3A ∷ Write 0x22 0x10 ∷ Write 0x23 0x18 ∷ Write 0x26 0xFF ∷ Write 0x27 0xF0 ∷ []) (take 28 (slots (framed 11 [])))) ≡ 1
+unfolding lastAnswer ran heardBy listening ones levels framed pin
+reply-barred = refl
+
+pub reply-not-barred : pin (heardBy (Write 0x19 0x3A ∷ Write 0x1B 0x1B ∷ Write 0x20 0xF2 ∷ Write 0x21 0x3A ∷ Write 0x22 0x10 ∷ Write 0x23 0x18 ∷ Write 0x26 0xFF ∷ Write 0x27 0xF0 ∷ []) (take 28 (slots (framed 11 [])))) ≡ 0
+unfolding lastAnswer ran heardBy listening ones levels framed pin
+reply-not-barred = refl
+
+pub reply-in-error : pin (heardBy (Write 0x19 0x3A ∷ Write 0x1B 0x1C ∷ []) (take 28 (slots (framed 11 [])))) ≡ 1
+unfolding lastAnswer ran heardBy listening ones levels framed pin
+reply-in-error = refl
+
+pub reply-ext-0 : pin (heardBy (Write 0x19 0x3A ∷ []) (take 28 (slots (framed 3 [])))) ≡ 1
+unfolding lastAnswer ran heardBy listening ones levels framed pin
+reply-ext-0 = refl
+
+pub reply-not-to-itself : pin (heardBy (Write 0x19 0x3B ∷ Write 0x01 0x23 ∷ Write 0x20 0xF2 ∷ Write 0x21 0x3A ∷ Write 0x22 0x10 ∷ Write 0x23 0x18 ∷ Write 0x26 0xFF ∷ Write 0x27 0xF0 ∷ []) (slots (framed 11 []))) ≡ 1
+unfolding lastAnswer ran heardBy listening ones levels framed pin
+reply-not-to-itself = refl
+
+-- its check is over the identifier and the RAK heard, and over the data bytes of the R/W slot
+pub reply-as-heard : sees (heardBy (Write 0x19 0x3A ∷ Write 0x80 0xA5 ∷ Write 0x81 0x3C ∷ Write 0x1F 0x00 ∷ []) (slots (record { identifier = 0xF20; command = 14; bytes = 0xA5 ∷ 0x3C ∷ []; acknowledge = true }))) (0x09 ∷ 0x18 ∷ 0x19 ∷ 0x1B ∷ []) ≡ 0x88 ∷ 0xF2 ∷ 0x3A ∷ 0x1B ∷ []
+unfolding lastAnswer ran heardBy listening ones levels framed sees reads
+reply-as-heard = refl
+
+pub reply-held : sees (heardBy (Write 0x19 0x3A ∷ Write 0x80 0xA5 ∷ Write 0x81 0x3C ∷ []) (take 28 (slots (framed 10 (0xA5 ∷ 0x3C ∷ [])))) ++ (Write 0x80 0x12 ∷ levels (drop 28 (slots (framed 10 (0xA5 ∷ 0x3C ∷ [])))))) (0x09 ∷ 0x1B ∷ []) ≡ 0x88 ∷ 0x1B ∷ []
+unfolding lastAnswer ran heardBy listening ones levels framed sees reads
+reply-held = refl
+
+-- after an error it is not repeated; sent whole it is stored by no channel that listens
+pub reply-ends : pin (heardBy (Write 0x19 0x3A ∷ Write 0x80 0xA5 ∷ Write 0x81 0x3C ∷ []) (take 31 (slots (framed 10 (0xA5 ∷ 0x3C ∷ []))) ++ (1 ∷ []))) ≡ 1
+unfolding lastAnswer ran heardBy listening ones levels framed pin
+reply-ends = refl
+
+pub reply-not-stored : sees (heardBy (Write 0x19 0x3A ∷ Write 0x80 0xA5 ∷ Write 0x81 0x3C ∷ Write 0x20 0xF2 ∷ Write 0x21 0x3B ∷ Write 0x22 0x10 ∷ Write 0x23 0x1A ∷ Write 0x26 0xFF ∷ Write 0x27 0xF0 ∷ []) (slots (framed 10 (0xA5 ∷ 0x3C ∷ [])))) (0x09 ∷ 0x1B ∷ 0x23 ∷ 0x90 ∷ 0x91 ∷ []) ≡ 0x88 ∷ 0x1B ∷ 0x1A ∷ 0x00 ∷ 0x00 ∷ []
+unfolding lastAnswer ran heardBy listening ones levels framed sees reads
+reply-not-stored = refl
+
+-- n in the slot bound: the longest length for a request, else the data bytes
+pub bound-of-a-request : boundOf 30 (framed 11 []) ≡ 30
+unfolding boundOf requestT framed
+bound-of-a-request = refl
+
+pub bound-of-data : boundOf 30 (framed 8 (0xA5 ∷ [])) ≡ 1
+unfolding boundOf requestT framed
+bound-of-data = refl
+
+pub bound-of-a-deferred-reply : boundOf 30 (framed 10 (0xA5 ∷ [])) ≡ 1
+unfolding boundOf requestT framed
+bound-of-a-deferred-reply = refl
+
 pub courses : Courses
 courses =
     record {
@@ -728,6 +795,8 @@ courses =
       types-sent = types-sent;
       types-of-data = types-of-data;
       types-of-requests = types-of-requests;
+      types-of-replies = types-of-replies;
+      types-of-repliers = types-of-repliers;
       link-high-bits = link-high-bits;
       linked-drak = linked-drak;
       link-to-link = link-to-link;
@@ -764,4 +833,17 @@ courses =
       reply-sent = reply-sent;
       reply-lost = reply-lost;
       reply-failed = reply-failed;
+      answer-exhausts = answer-exhausts;
+      reply-barred = reply-barred;
+      reply-not-barred = reply-not-barred;
+      reply-in-error = reply-in-error;
+      reply-ext-0 = reply-ext-0;
+      reply-not-to-itself = reply-not-to-itself;
+      reply-as-heard = reply-as-heard;
+      reply-held = reply-held;
+      reply-ends = reply-ends;
+      reply-not-stored = reply-not-stored;
+      bound-of-a-request = bound-of-a-request;
+      bound-of-data = bound-of-data;
+      bound-of-a-deferred-reply = bound-of-a-deferred-reply;
     }

@@ -86,7 +86,6 @@ module _ (x : Coded) (k v : ℕ) where
 -- in an attempt that another module answers
 pub data Awaited : Verdict → Type 0 where
   on : Awaited Answered
-  apart : Awaited Unjudged
   broken : (code : ℕ) → code ≤ 32 → Awaited (Failed code)
   fulfilled : Awaited Done
 

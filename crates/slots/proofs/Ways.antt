@@ -17,11 +17,8 @@ use Rattle.rules.specs.Definitions.Answers.{controller}
 use Rattle.rules.specs.declared.Role.{Role}
 use Rattle.rules.specs.declared.Role.the-variants.{Nobody, Receiver, Sender, Asker, Replier}
 use Rattle.rules.specs.declared.Core.{Core}
+use Rattle.rules.proofs.Logic.{both-false}
 use Rattle.slots.specs.Follow.{begins, driven, drivenAs}
-
-both-false : (a : Bool) → both a false ≡ false
-both-false true = refl
-both-false false = refl
 
 -- no idle waits, a frame is under way, and its start sequence has not just ended
 waits-not : (k : Core) → begins k ≡ false → k .activity .waiting ≡ false

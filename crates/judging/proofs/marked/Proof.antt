@@ -19,12 +19,13 @@ marked-spec =
     let d = c .before .before .before .before .before .before .before .before .before .before .delivers .ensures in
     let end = c .before .before .before .before .before .before .before .before .before .end-in .ensures in (
       rw (
-      c .before .before .before .mark-reply .ensures,
-      c .before .before .before .before .before .end-memory .ensures,
-      c .before .before .before .before .before .before .before .deliver .ensures,
-      end,
-      d,
-      p .0,
-      p .1),
+        c .before .before .before .mark-reply .ensures,
+        c .before .before .before .before .before .end-memory .ensures,
+        c .before .before .before .before .before .before .before .deliver .ensures,
+        end,
+        d,
+        p .0,
+        p .1,
+      ),
       (rw (c .before .report-reply .ensures, c .before .before .report-after .ensures, end, d, p .0, p .1), rw (c .settled .ensures, end, d, p .0, p .1)),
     )))

@@ -679,7 +679,6 @@ module _ (s : Service) (few : s .effort .counters .errors .0 ≤ s .effort .sett
   last-sound : {v : ℕ} {w : Verdict} → Tried (s .effort) v w → isExhausted (endingOf w (serviceJudged w s)) ≡ true → IsLast (s .effort) w
   last-sound unjudged h = clash unjudged-not h
   last-sound (awaited judgement.on) h = clash answered-not h
-  last-sound (awaited judgement.apart) h = clash unjudged-not h
   last-sound (awaited (judgement.broken code g)) h = failed-last code h
   last-sound (awaited judgement.fulfilled) h = clash done-not h
   last-sound (judged (went e g)) h =

@@ -78,7 +78,7 @@ nothing-judged : (m : List ℕ) (k : Core) (w q : Verdict) (h : Hearing) → del
 unfolding memoryJudged memoryDelivered
 nothing-judged m k w q h e = rw e
 
-ended-elsewhere : (x : Ending) (m : List ℕ) (ch a : ℕ) → (a ≡ base ch + 3 → ⊥) → getD (memoryEnded x m ch) a 0 ≡ getD m a 0
+pub ended-elsewhere : (x : Ending) (m : List ℕ) (ch a : ℕ) → (a ≡ base ch + 3 → ⊥) → getD (memoryEnded x m ch) a 0 ≡ getD m a 0
 unfolding memoryEnded markedCher markedChtx
 ended-elsewhere Going m ch a h = refl
 ended-elsewhere Sent m ch a h = getD-set-other m (base ch + 3) a _ 0 h
@@ -87,7 +87,7 @@ ended-elsewhere Aborted m ch a h = getD-set-other m (base ch + 3) a _ 0 h
 ended-elsewhere Rearbitrated m ch a h = refl
 ended-elsewhere Fulfilled m ch a h = refl
 
-replied-elsewhere : (q : Verdict) (m : List ℕ) (ch a : ℕ) → (a ≡ base ch + 3 → ⊥) → getD (memoryReplied q m ch) a 0 ≡ getD m a 0
+pub replied-elsewhere : (q : Verdict) (m : List ℕ) (ch a : ℕ) → (a ≡ base ch + 3 → ⊥) → getD (memoryReplied q m ch) a 0 ≡ getD m a 0
 unfolding memoryReplied markedCher markedChtx markedChrx
 replied-elsewhere Unjudged m ch a h = refl
 replied-elsewhere Goes m ch a h = refl
@@ -102,7 +102,7 @@ set-keeps f g h [] i = refl
 set-keeps f g h (x ∷ xs) zero = h x
 set-keeps f g h (x ∷ xs) (suc i) = set-keeps f g h xs i
 
-ended-keeps : (f : ℕ → ℕ) → ((s : ℕ) → f (withCher s) ≡ f s) → ((s : ℕ) → f (withChtx s) ≡ f s) → (x : Ending) (m : List ℕ) (ch : ℕ)
+pub ended-keeps : (f : ℕ → ℕ) → ((s : ℕ) → f (withCher s) ≡ f s) → ((s : ℕ) → f (withChtx s) ≡ f s) → (x : Ending) (m : List ℕ) (ch : ℕ)
     → f (getD (memoryEnded x m ch) (base ch + 3) 0) ≡ f (getD m (base ch + 3) 0)
 unfolding memoryEnded markedCher markedChtx
 ended-keeps f p q Going m ch = refl
@@ -112,19 +112,19 @@ ended-keeps f p q Aborted m ch = set-keeps f withChtx q m (base ch + 3)
 ended-keeps f p q Rearbitrated m ch = refl
 ended-keeps f p q Fulfilled m ch = refl
 
-cher-length : (s : ℕ) → withCher s / 8 ≡ s / 8
+pub cher-length : (s : ℕ) → withCher s / 8 ≡ s / 8
 unfolding withCher
 cher-length s = omega arith
 
-chtx-length : (s : ℕ) → withChtx s / 8 ≡ s / 8
+pub chtx-length : (s : ℕ) → withChtx s / 8 ≡ s / 8
 unfolding withChtx
 chtx-length s = omega arith
 
-cher-chrx : (s : ℕ) → withCher s % 2 ≡ s % 2
+pub cher-chrx : (s : ℕ) → withCher s % 2 ≡ s % 2
 unfolding withCher
 cher-chrx s = omega arith
 
-chtx-chrx : (s : ℕ) → withChtx s % 2 ≡ s % 2
+pub chtx-chrx : (s : ℕ) → withChtx s % 2 ≡ s % 2
 unfolding withChtx
 chtx-chrx s = omega arith
 

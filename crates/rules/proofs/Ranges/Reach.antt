@@ -27,7 +27,7 @@ use Rattle.rules.proofs.Ranges.Limits.{ReplyLimits, RetriesLimits, Repo
 use Rattle.rules.proofs.Ranges.Bytes.{set-below, zeros-below, reset-below}
 use Rattle.rules.proofs.Ranges.Reception.{Received, quiet-received, judged-received, line-small, Heard, silent, follows, fault, good, frame-heard, quiet-heard, heard-report, delivered-report, delivered-below}
 use Rattle.rules.proofs.Logic.{both-true}
-use Rattle.rules.proofs.Judged.{slot-judged, Awaited, on, apart, broken, fulfilled, Tried, unjudged, judged, awaited}
+use Rattle.rules.proofs.Judged.{slot-judged, Awaited, on, broken, fulfilled, Tried, unjudged, judged, awaited}
 use Rattle.rules.proofs.Ranges.Service.{Served, resting-served, own-heard, slot-heard, Spent, served-spent, judged-spent, Ends, fulfilment, stopped-ends, ending-ends, settled-served, ended-below, replied-below, sending-report, judged-report, ended-report, replied-report, none-replies, replied-limits, taken-limits, choose-served, started-served, abort-served, rear-served}
 use Rattle.rules.proofs.Steps.{Call, refused, taken, call-of}
 use Rattle.rules.specs.declared.Report.{Report}

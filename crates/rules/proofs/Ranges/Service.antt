@@ -25,7 +25,7 @@ use Rattle.rules.specs.Definitions.Mailbox.{dataIn, frameWith, replyFram
 use Rattle.rules.specs.Definitions.Reception.{free, underWay, startEnded, replyLow}
 use Rattle.rules.specs.Definitions.Attempt.{noCounts, atStage, isBetween, betweenAttempts, waits, drivesFrame, levelAt, due, judgeSlot, judge, slotSpent, lostSpent, errorSpent, advance, exhausted}
 use Rattle.rules.specs.Definitions.Service.{resting, stopped, endingOf, settled, memoryEnded, retriesOf, reportSending, reportJudged, reportEnded, noReply, judgeReply, replyMoved, replied, memoryReplied, reportReplied, replyBy, replyTaken, chosen, choiceOf, choose, opened, started, abortAsked, rearAsked, hearOwn}
-use Rattle.rules.proofs.Judged.{Judged, went, lost, broke, done, answered, slot-judged, Awaited, on, apart, broken, fulfilled, Tried, unjudged, judged, awaited}
+use Rattle.rules.proofs.Judged.{Judged, went, lost, broke, done, answered, slot-judged, Awaited, on, broken, fulfilled, Tried, unjudged, judged, awaited}
 use Rattle.rules.proofs.Ranges.Limits.{ReplyLimits, ServiceLimits, RetriesLimits, ReportLimits}
 use Rattle.rules.proofs.Ranges.Bytes.{data-small, mailbox-length, fits-sent, setting-small, cher-below, chtx-below, chrx-below, Named, nothing, channel, ready-named, replier-named}
 use Rattle.rules.proofs.Ranges.Reception.{Heard, silent, follows, fault, good}
@@ -69,7 +69,6 @@ unfolding hearOwn
 own-heard unjudged = silent
 own-heard (judged j) = slot-heard j
 own-heard (awaited on) = follows
-own-heard (awaited apart) = silent
 own-heard (awaited (broken code h)) = fault code h
 own-heard (awaited fulfilled) = good
 
@@ -108,7 +107,6 @@ judged-spent s (judged (answered a b c)) f =
 judged-spent s (awaited on) f =
     let l = f .limits in
     record { channel = l .channel; n = l .effort .n; at = omega arith; setting = l .effort .setting; over = λ e. f .retries }
-judged-spent s (awaited apart) f = served-spent s f
 judged-spent s (awaited (broken code h)) f =
     let l = f .limits in
     record { channel = l .channel; n = l .effort .n; at = omega arith; setting = l .effort .setting; over = λ e. absurd (false≢true (sym e)) }
@@ -200,7 +198,6 @@ judged-report (judged (broke code h)) x s l f = sending-report (withError x code
 judged-report (judged done) x s l f = l
 judged-report (judged (answered a b c)) x s l f = l
 judged-report (awaited on) x s l f = l
-judged-report (awaited apart) x s l f = l
 judged-report (awaited (broken code h)) x s l f = sending-report (withError x code) s (record { sending = l .sending; message = l .message; error = h }) f
 judged-report (awaited fulfilled) x s l f = l
 

@@ -1,5 +1,5 @@
 -- Delivery and acknowledge over every list of events.
-use Prim.Native.Nat.{ℕ, _+_, _*_, _%_, _≤_}
+use Prim.Native.Nat.{ℕ, _+_, _*_, _/_, _%_, _≤_}
 use mathlib.Core.Bool.{Bool, true, false, false≢true}
 use mathlib.Core.List.{List, [], _∷_, _++_}
 use mathlib.Core.Path.{_≡_, refl, ap, _∙_, sym, subst}
@@ -50,6 +50,8 @@ use Rattle.rules.proofs.Receiving.Log as at
 use Rattle.rules.proofs.Receiving.LogSteps.{Logs}
 use Rattle.rules.proofs.Receiving.Answers.{is-asking, Kept, kept-fresh, kept-next, coming}
 use Rattle.rules.proofs.Samples.{sample-small}
+use Rattle.rules.specs.Statements.OwnFrames.{statusAt}
+use Rattle.rules.proofs.OwnFrames.EveryRun.{ended-elsewhere, replied-elsewhere, ended-keeps, cher-length, chtx-length, cher-chrx, chtx-chrx}
 use Rattle.rules.specs.declared.Winner.{Winner}
 use Rattle.rules.specs.declared.Phase.{Phase}
 use Rattle.rules.specs.declared.Phase.the-variants.{Quiet, Start, Body, Acknowledge, End}
@@ -250,38 +252,12 @@ module _ (c : Controller) (w q : Verdict) (v : ℕ) where
       let e : followsOn m k .reception ≡ k .reception = follows-reception m k ∙ idle-active k (ap (λ (x : Activity). isActive (x .mode)) (sym (follows-activity m k)) ∙ a) in
       ap (λ (x : Reception). underWay (x .place)) (e ∙ judged-reception m (c .core) w q hearing.Follows v) ∙ judged-under-way m (c .core .reception) v
 
--- the marks of a service that ends stand in the channels
-chtx-mailbox : (m : List ℕ) (c a : ℕ) → 128 ≤ a → getD (markedChtx m c) a 0 ≡ getD m a 0
-unfolding markedChtx base
-chtx-mailbox m c a h = getD-set-other m (0x10 + 8 * (c % 14) + 3) a _ 0 (λ e. omega arith)
-
-ended-mailbox : (x : Ending) (m : List ℕ) (c a : ℕ) → 128 ≤ a → getD (memoryEnded x m c) a 0 ≡ getD m a 0
-unfolding memoryEnded
-ended-mailbox Going m c a h = refl
-ended-mailbox Sent m c a h = chtx-mailbox m c a h
-ended-mailbox Exhausted m c a h = chtx-mailbox (markedCher m c) c a h ∙ cher-mailbox m c a h
-ended-mailbox Aborted m c a h = chtx-mailbox m c a h
-ended-mailbox Rearbitrated m c a h = refl
-ended-mailbox Fulfilled m c a h = refl
-
-chrx-mailbox : (m : List ℕ) (c a : ℕ) → 128 ≤ a → getD (markedChrx m c) a 0 ≡ getD m a 0
-unfolding markedChrx base
-chrx-mailbox m c a h = getD-set-other m (0x10 + 8 * (c % 14) + 3) a _ 0 (λ e. omega arith)
-
-replied-mailbox : (q : Verdict) (m : List ℕ) (c a : ℕ) → 128 ≤ a → getD (memoryReplied q m c) a 0 ≡ getD m a 0
-unfolding memoryReplied
-replied-mailbox Unjudged m c a h = refl
-replied-mailbox Goes m c a h = refl
-replied-mailbox Lost m c a h = refl
-replied-mailbox (Failed code) m c a h = cher-mailbox m c a h
-replied-mailbox Done m c a h = chrx-mailbox (markedChtx m c) c a h ∙ chtx-mailbox m c a h
-replied-mailbox Answered m c a h = refl
-
 -- marks stand in the channels: the mailboxes are as the delivery leaves them
 judged-mailbox : (m : List ℕ) (k : Core) (w q : Verdict) (h : Hearing) (a : ℕ) → 128 ≤ a → getD (memoryJudged m k w q h) a 0 ≡ getD (memoryDelivered (delivers (roleIn k) h (k .reception)) m (k .reception)) a 0
 unfolding memoryJudged
 judged-mailbox m k w q h a i =
-    replied-mailbox q _ (k .reply .channel) a i ∙ ended-mailbox (ending k w h) (memoryDelivered (delivers (roleIn k) h (k .reception)) m (k .reception)) (k .service .channel) a i
+    replied-elsewhere q _ (k .reply .channel) a (λ e. unfold base in omega arith)
+    ∙ ended-elsewhere (ending k w h) (memoryDelivered (delivers (roleIn k) h (k .reception)) m (k .reception)) (k .service .channel) a (λ e. unfold base in omega arith)
 
 -- a sample that is none of another module's frame leaves them
 other-mailbox : (x : Role) → receives x ≡ false → (h : Hearing) (m : List ℕ) (r : Reception) (a : ℕ) → getD (memoryDelivered (delivers x h r) m r) a 0 ≡ getD m a 0
@@ -399,6 +375,14 @@ module _ (c : Controller) (t : Tally) (l : Log) (i : Logs c l) (levels : ℕ) (y
       ∙ ap (λ (x : Verdict). memoryJudged (c .memory) (c .core) Unjudged x (hears c levels)) (no-reply-judged (c .core) u q)
       ∙ receiver-memory (c .memory) (c .core) (hears c levels) e (i .stands .going)
 
+  next-marked : next c (Slot levels) .memory
+      ≡ memoryEnded (ending (c .core) (verdict (c .core) u) (hears c levels)) (memoryDelivered (deliveryOf (hears c levels) r) (c .memory) r) (c .core .service .channel)
+  unfolding memoryJudged
+  next-marked =
+      slot-memory c t levels y a
+      ∙ ap (λ (x : Verdict). memoryJudged (c .memory) (c .core) (verdict (c .core) u) x (hears c levels)) (no-reply-judged (c .core) u q)
+      ∙ unfold memoryReplied in ap (λ (d : Delivery). memoryEnded (ending (c .core) (verdict (c .core) u) (hears c levels)) (memoryDelivered d (c .memory) r) (c .core .service .channel)) (receives-delivers (role c) q (hears c levels) r)
+
   next-mailbox : (b : ℕ) → 128 ≤ b → getD (next c (Slot levels) .memory) b 0 ≡ getD (memoryDelivered (deliveryOf (hears c levels) r) (c .memory) r) b 0
   next-mailbox b h =
       slot-mailbox c t levels y a b h ∙ ap (λ (d : Delivery). getD (memoryDelivered d (c .memory) r) b 0) (receives-delivers (role c) q (hears c levels) r)
@@ -435,7 +419,11 @@ module _ (c : Controller) (t : Tally) (l : Log) (i : Logs c l) (levels : ℕ) (y
         whole = w .slots-are;
         valid = valid-as (sym n) (w .valid);
         memory = λ e. next-memory e ∙ m;
-        mailbox = λ b k. next-mailbox b k ∙ ap (λ (x : List ℕ). getD x b 0) m;
+        elsewhere = λ b k. ap (λ (x : List ℕ). getD x b 0) next-marked ∙ ended-elsewhere _ _ (c .core .service .channel) b k ∙ ap (λ (x : List ℕ). getD x b 0) m;
+        status = (
+          ap (λ (x : List ℕ). getD x (statusAt c) 0 / 8) next-marked ∙ ended-keeps (λ s. s / 8) cher-length chtx-length _ _ (c .core .service .channel) ∙ ap (λ (x : List ℕ). getD x (statusAt c) 0 / 8) m,
+          ap (λ (x : List ℕ). getD x (statusAt c) 0 % 2) next-marked ∙ ended-keeps (λ s. s % 2) cher-chrx chtx-chrx _ _ (c .core .service .channel) ∙ ap (λ (x : List ℕ). getD x (statusAt c) 0 % 2) m,
+        );
         error = good-next h w (role c) refl ∙ ap (λ (x : Winner). errorAfter (c .core .report .error) (untaken (role c) (c .core .report .error)) x (w .frame)) n;
       }
 

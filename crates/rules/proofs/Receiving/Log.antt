@@ -353,7 +353,7 @@ module _ (longest : ℕ) (s : Service) (y : ImmediateReply) (r : Reception) (l :
       record {
         going = by-going b Unjudged s;
         stage = picked (λ (z : ImmediateReply). At longest t z (then Follows) (sampledLog l v m)) (readsAsked (then Follows)) _ y
-          (λ e. begins-reply most below t a n (is-asked (then Follows) e) (replierFor m longest (getD (then Follows .bytes) 0 0) (replyLow (then Follows))) refl) (λ e. receiving a g n);
+            (λ e. begins-reply most below t a n (is-asked (then Follows) e) (replierFor m longest (getD (then Follows .bytes) 0 0) (replyLow (then Follows))) refl) (λ e. receiving a g n);
       }
 
   -- another module's frame

@@ -1,8 +1,8 @@
--- Channels, masks and links; who takes a frame, who sends (01, Memory map, Receiving, Sending; 000, Channel Registers).
+-- Channels, masks and links; who takes a frame, who sends, who replies (01, Memory map, Receiving, Sending; 02, Req 01; 000, Channel Registers, Message Types).
 --   base, channelAt == where channel c stands, and its bytes        bufferOf == pointer and length that a channel uses, its link resolved
---   receiveMessage, requestDetection, transmitMessage, deferredReply == the message types of a channel
+--   receiveMessage, requestDetection, transmitMessage, deferredReply, requestMessage, awaitsReply, immediateReply == the message types of a channel
 --   matches, listens, takes == whether a channel takes a frame        lowestListening, winnerFor == who takes it
---   asksToSend, ready, lowestReady == who sends
+--   asksToSend, ready, lowestReady == who sends        settlesReply, replierFor == who replies
 -- `low` is byte 1 of a frame or of a channel: identifier or tag bits 3 to 0, EXT, RAK, R/W, RTR.
 use Prim.Native.Nat.{ℕ, zero, suc, _+_, _*_, _/_, _%_}
 use mathlib.Core.Bool.{Bool, true, false, not}

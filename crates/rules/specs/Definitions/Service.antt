@@ -1,6 +1,8 @@
--- The sending service: choice, start, abort, REAR, end (01, Sending; 000, Retries, Rearbitrate and Abort).
+-- The sending service: choice, start, abort, REAR, end; requests and immediate replies (01, Sending; 02, Req 01; 000, Retries, Rearbitrate and Abort).
 --   roleOf == what the model is in the frame under way        stopped, endingOf, settled == the end of a service
 --   memoryEnded, reportJudged, reportEnded == memory map and registers        chosen, choose, started == choice and start
+--   answeredAs == what an answer is for its request        fulfils == a stored reply ends a waiting request
+--   judgeReply, replied, memoryReplied, reportReplied, replyTaken == an immediate reply
 use Prim.Native.Nat.{ℕ, _+_, _%_}
 use mathlib.Core.Bool.{Bool, true, false}
 use mathlib.Core.List.{List}

@@ -3,7 +3,7 @@
 --   Heeds == what holds of a slot, whoever sends        Delivers == what holds of a slot of another module's frame
 --   Acknowledges == what holds where the model drives an acknowledge
 --   ReceivingOver == what holds of a list of events, from a controller and a log on
-use Prim.Native.Nat.{ℕ, _+_, _*_, _≤_}
+use Prim.Native.Nat.{ℕ, _+_, _*_, _/_, _%_, _≤_}
 use mathlib.Core.Bool.{Bool, true, false}
 use mathlib.Core.List.{List, [], _∷_, _++_}
 use mathlib.Core.Path.{_≡_}
@@ -22,6 +22,7 @@ use Rattle.rules.specs.Definitions.Slots.{roleIn, heard, verdict, drives
 use Rattle.rules.specs.Definitions.Run.{next}
 use Rattle.rules.specs.Statements.Observer.{accepted}
 use Rattle.rules.specs.Statements.Interrupts.{ownFrame}
+use Rattle.rules.specs.Statements.OwnFrames.{statusAt}
 use Rattle.rules.specs.declared.Winner.{Winner}
 use Rattle.rules.specs.declared.Hearing.{Hearing}
 use Rattle.rules.specs.declared.Hearing.the-variants.{Silent, Follows, Fault, Good}
@@ -118,9 +119,11 @@ pub record Taken (c : Controller) (l : Log) (levels : ℕ) : Type 0 where
   pub fits : Fits (longestOf (c .core)) frame
   pub whole : l .samples ++ (sampleOf c levels ∷ []) ≡ slots frame
   pub valid : Valid (taker l frame) frame
-  -- the end of an answered request marks its own channel beside
   pub memory : role c ≡ Receiver → next c (Slot levels) .memory ≡ received (c .memory) (taker l frame) frame
-  pub mailbox : (a : ℕ) → 128 ≤ a → getD (next c (Slot levels) .memory) a 0 ≡ getD (received (c .memory) (taker l frame) frame) a 0
+  -- the end of an answered request also marks CHER and CHTx of its own channel, and nothing else
+  pub elsewhere : (a : ℕ) → (a ≡ statusAt c → ⊥) → getD (next c (Slot levels) .memory) a 0 ≡ getD (received (c .memory) (taker l frame) frame) a 0
+  pub status : (getD (next c (Slot levels) .memory) (statusAt c) 0 / 8 ≡ getD (received (c .memory) (taker l frame) frame) (statusAt c) 0 / 8)
+      × (getD (next c (Slot levels) .memory) (statusAt c) 0 % 2 ≡ getD (received (c .memory) (taker l frame) frame) (statusAt c) 0 % 2)
   pub error : next c (Slot levels) .core .report .error ≡ errorAfter (c .core .report .error) (untaken (role c) (c .core .report .error)) (taker l frame) frame
 
 -- a slot of a frame that another module sends
