@@ -206,7 +206,7 @@ pub record Sending : Type 0 where
   --     memory map, the levels driven and sampled, whether an event was accepted and the longest data length
   --   fits: the frame of the service under way is a frame no longer than the controller sends
   --   driven: in an accepted slot of an attempt, the levels driven in it, that of this slot included, begin the frame's slots, or those from the eleventh on where it joined
-  --     an answered request drives no frame of its own from there on, and the level is that of `agrees`: at most the acknowledge
+  --   answer: in an accepted slot of an answered request the model drives dominant only where the frame that answers is owed an acknowledge
   --   errors: at most R + 1 attempts of the service have ended in error        slots: at most (C + R + 1) × (60 + 10n) slots were spent in its attempts; n is 30 for a request
   --   raised: where R + 1 errors are counted, TE is 1 after the event        only: where the event turns TE from 0 to 1, R + 1 errors are counted
   --   reply: in an accepted slot of a reply, the levels driven in it, that of this slot included, begin one frame's slots from its RTR bit on, and are at most 32 + 10n

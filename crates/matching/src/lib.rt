@@ -1,4 +1,4 @@
-// Matching: who takes a frame, who sends (01, Receiving, Sending; 000, Channel Registers).
+// Matching: who takes a frame, who sends, who replies (01, Receiving, Sending; 02, Req 01; 000, Channel Registers).
 // `low` is byte 1 of a frame or of a channel: identifier or tag bits 3 to 0, EXT, RAK, R/W, RTR.
 ghost use mathlib.Core.Path.{_≡_};
 ghost use mathlib.Core.Bool.{not};

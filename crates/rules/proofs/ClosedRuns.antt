@@ -48,6 +48,21 @@ pub abort : Counts (seenOver fresh atReset (setUp ++ (ones 12 ++ (Slot 0 ∷ Slo
 unfolding seenOver setUp ones
 abort = (refl, refl, refl)
 
+-- a request answered and stored: its slots count to the end of the answer
+pub answer-taken : Counts (seenOver fresh atReset (heardBy (Write 0x19 0x3B ∷ Write 0x01 0x23 ∷ []) (take 79 (slots (framed 10 (0xA5 ∷ 0x3C ∷ []))))) (Slot 1)) 0 0 80
+unfolding seenOver heardBy listening ones levels framed
+answer-taken = (refl, refl, refl)
+
+-- answered and not fitting: an error of 80 slots
+pub answer-wasted : Counts (seenOver fresh atReset (heardBy (Write 0x19 0x3B ∷ Write 0x01 0x23 ∷ Write 0x1B 0x10 ∷ []) (take 79 (slots (framed 10 (0xA5 ∷ 0x3C ∷ []))))) (Slot 1)) 0 1 80
+unfolding seenOver heardBy listening ones levels framed
+answer-wasted = (refl, refl, refl)
+
+-- R = 0, and an answer of 30 bytes broken in its last slot: the bound of a request, met with equality
+pub longest-answer : Counts (seenOver fresh atReset (heardBy (Write 0x19 0x3B ∷ Write 0x01 0x03 ∷ []) (take 359 (slots (framed 10 (replicate 30 0))))) (Slot 0)) 0 1 360
+unfolding seenOver heardBy listening ones levels framed
+longest-answer = (refl, refl, refl)
+
 -- the acknowledge is driven behind its first slot
 pub driven : drives (ran fresh (listening ++ (ones 12 ++ levels (take 71 (slots asking)))) .core) ≡ 0
 unfolding ran lastAnswer listening ones levels asking drives
@@ -124,6 +139,9 @@ runs =
       lost-twice = lost-twice;
       join = join;
       abort = abort;
+      answer-taken = answer-taken;
+      answer-wasted = answer-wasted;
+      longest-answer = longest-answer;
       frame-kept = frame-kept;
       setting-kept = setting-kept;
       loss-counted = loss-counted;
@@ -347,7 +365,7 @@ pub low-bits-compared : sees (heardBy (Write 0x19 0x99 ∷ []) (slots (framed 8 
 unfolding lastAnswer ran sees reads heardBy listening ones levels framed
 low-bits-compared = refl
 
--- ignored: EXT 0; R/W 0 with RTR 1; R/W 1 with RTR 0; a channel with CHRx 1
+-- ignored: EXT 0; R/W 0 with RTR 1; R/W 1 with RTR 0 where no channel awaits a reply; a channel with CHRx 1
 pub ext-0 : sees (heardBy [] (slots (framed 4 []))) (0x07 ∷ 0x09 ∷ 0x1B ∷ []) ≡ 0x00 ∷ 0x80 ∷ 0x18 ∷ []
 unfolding lastAnswer ran sees reads heardBy listening ones levels framed
 ext-0 = refl
@@ -661,7 +679,7 @@ pub answer-exhausts : sees (heardBy (Write 0x19 0x3B ∷ Write 0x01 0x03 ∷ Wri
 unfolding lastAnswer ran heardBy listening ones levels framed sees reads
 answer-exhausts = refl
 
--- no reply: 1,0,1,0 of a lower channel matches; CHER is 1; EXT is 0; the frame is the model's own request
+-- no reply: 1,0,1,0 of a lower channel matches, while 1,0,1,1 bars nothing; CHER is 1, and a higher channel replies; EXT is 0; R/W is 0; another tag; the model's own request
 pub reply-barred : pin (heardBy (Write 0x19 0x3A ∷ Write 0x1B 0x1A ∷ Write 0x20 0xF2 ∷ Write 0x21 0x3A ∷ Write 0x22 0x10 ∷ Write 0x23 0x18 ∷ Write 0x26 0xFF ∷ Write 0x27 0xF0 ∷ []) (take 28 (slots (framed 11 [])))) ≡ 1
 unfolding lastAnswer ran heardBy listening ones levels framed pin
 reply-barred = refl
@@ -674,9 +692,21 @@ pub reply-in-error : pin (heardBy (Write 0x19 0x3A ∷ Write 0x1B 0x1C ∷ []) (
 unfolding lastAnswer ran heardBy listening ones levels framed pin
 reply-in-error = refl
 
+pub reply-passed-over : pin (heardBy (Write 0x19 0x3A ∷ Write 0x1B 0x1C ∷ Write 0x20 0xF2 ∷ Write 0x21 0x3A ∷ Write 0x22 0x10 ∷ Write 0x23 0x18 ∷ Write 0x26 0xFF ∷ Write 0x27 0xF0 ∷ []) (take 28 (slots (framed 11 [])))) ≡ 0
+unfolding lastAnswer ran heardBy listening ones levels framed pin
+reply-passed-over = refl
+
 pub reply-ext-0 : pin (heardBy (Write 0x19 0x3A ∷ []) (take 28 (slots (framed 3 [])))) ≡ 1
 unfolding lastAnswer ran heardBy listening ones levels framed pin
 reply-ext-0 = refl
+
+pub reply-rw-0 : pin (heardBy (Write 0x19 0x3A ∷ []) (take 28 (slots (framed 9 [])))) ≡ 1
+unfolding lastAnswer ran heardBy listening ones levels framed pin
+reply-rw-0 = refl
+
+pub reply-unmatched : pin (heardBy (Write 0x19 0x2A ∷ []) (take 28 (slots (framed 11 [])))) ≡ 1
+unfolding lastAnswer ran heardBy listening ones levels framed pin
+reply-unmatched = refl
 
 pub reply-not-to-itself : pin (heardBy (Write 0x19 0x3B ∷ Write 0x01 0x23 ∷ Write 0x20 0xF2 ∷ Write 0x21 0x3A ∷ Write 0x22 0x10 ∷ Write 0x23 0x18 ∷ Write 0x26 0xFF ∷ Write 0x27 0xF0 ∷ []) (slots (framed 11 []))) ≡ 1
 unfolding lastAnswer ran heardBy listening ones levels framed pin
@@ -837,7 +867,10 @@ courses =
       reply-barred = reply-barred;
       reply-not-barred = reply-not-barred;
       reply-in-error = reply-in-error;
+      reply-passed-over = reply-passed-over;
       reply-ext-0 = reply-ext-0;
+      reply-rw-0 = reply-rw-0;
+      reply-unmatched = reply-unmatched;
       reply-not-to-itself = reply-not-to-itself;
       reply-as-heard = reply-as-heard;
       reply-held = reply-held;

@@ -14,7 +14,7 @@ use Rattle.line.specs.declared.Part.the-variants.{Start, Identifier, Command, D
 use Rattle.line.specs.declared.Half.{Half}
 use Rattle.line.specs.declared.Half.the-variants.{Plain, First, Second}
 use Rattle.rules.specs.Definitions.Registers.{both, CV, ACKE, FCSE}
-use Rattle.rules.specs.Definitions.Attempt.{drivesFrame, rtrSlot, isRequest, levelAt, due, openHalf, arbitrated, inCheck, inAcknowledge, differenceIn, difference, judgeSlot, judge}
+use Rattle.rules.specs.Definitions.Attempt.{drivesFrame, rtrSlot, isRequest, levelAt, due, openHalf, arbitrated, inCheck, inAcknowledge, differenceIn, difference, judgeSlot}
 use Rattle.rules.proofs.Logic.{both-true}
 use Rattle.rules.specs.declared.Coded.{Coded}
 use Rattle.rules.specs.declared.Effort.{Effort}
@@ -93,9 +93,3 @@ pub data Tried (e : Effort) (v : ℕ) : Verdict → Type 0 where
   unjudged : Tried e v Unjudged
   awaited : {w : Verdict} → Awaited w → Tried e v w
   judged : {w : Verdict} → Judged (e .frame) (e .progress .at) v w → Tried e v w
-
-pub tried : (e : Effort) (v : ℕ) → Tried e v (judge e v)
-unfolding judge
-tried e v =
-    picked (Tried e v) (drivesFrame (e .progress)) (judgeSlot (e .frame) (e .progress .at) v) Unjudged
-    (λ h. judged (slot-judged (e .frame) (e .progress .at) v)) (λ h. unjudged)

@@ -6,7 +6,7 @@ use Rattle.line.specs.Bits.{pick}
 use Rattle.line.proofs.Laws.{picked}
 use Rattle.rules.specs.Definitions.Reception.{underWay}
 use Rattle.rules.specs.Definitions.Hearing.{hearFrame, hearQuiet}
-use Rattle.rules.specs.Definitions.Attempt.{drivesFrame, isAnswered, judgeSlot, judge}
+use Rattle.rules.specs.Definitions.Attempt.{drivesFrame, isAnswered, judgeSlot}
 use Rattle.rules.specs.Definitions.Service.{roleOf, judgeReply, hearOwn}
 use Rattle.rules.specs.Definitions.Longest.{longestOf}
 use Rattle.rules.specs.Definitions.Slots.{heardAs, heard}
@@ -54,16 +54,6 @@ module _ (p : Progress) (replies : Bool) (here : Place) where
   pub role-other : drivesFrame p ≡ false → isAnswered p ≡ false → replies ≡ false → roleOf p replies here ≡ pick (underWay here) Receiver Nobody
   unfolding roleOf
   role-other d a y = rw (d, a, y)
-
--- ---- for the attempt
-
-pub judge-apart : (e : Effort) (v : ℕ) → drivesFrame (e .progress) ≡ false → judge e v ≡ Unjudged
-unfolding judge
-judge-apart e v d = rw d
-
-pub judge-driving : (e : Effort) (v : ℕ) → drivesFrame (e .progress) ≡ true → judge e v ≡ judgeSlot (e .frame) (e .progress .at) v
-unfolding judge
-judge-driving e v d = rw d
 
 -- ---- for the line
 

@@ -159,7 +159,7 @@ pub struct Service {
     pub effort: Effort,
 }
 
-// What a sample is for the attempt under way.
+// What a sample is for the attempt, or for the immediate reply, under way.
 pub enum Verdict {
     Unjudged,
     Goes,

@@ -23,7 +23,7 @@ use Rattle.rules.specs.Definitions.Slots.{roleIn, replyVerdict, heard, r
 use Rattle.rules.specs.Definitions.Host.{resetAll, resets, sleeps, modeCommanded, flagsCleared, coreWritten, serviceAsked, stoppedCore, byteWritten, hostWritten}
 use Rattle.rules.specs.Definitions.Run as run
 use Rattle.rules.specs.Definitions.Run.{fresh, accept, restedSlot, step, next}
-use Rattle.rules.specs.Statements.Tally.{Stand, away, between, opening, inside, answered, Tally, none, Reply, verdict, countedT, endedIn, endedT, chooseIn, chooseT, startIn, startT, askedIn, askedT, isAway}
+use Rattle.rules.specs.Statements.Tally.{Stand, away, between, opening, inside, answered, Tally, none, Answering, verdict, countedT, endedIn, endedT, chooseIn, chooseT, startIn, startT, askedIn, askedT, isAway}
 use Rattle.rules.specs.Statements.Observer as observer
 use Rattle.rules.specs.Statements.Observer.{Past, recessive, freeO, startsO, anew, Replying, silent, replies, Observer, withActivityO, withLineO, withFrameO, withTallyO, withReplyO, atReset, codeT, hearsOwn, hearsOther, hearsApart, hearsIn, hearsO, answerIn, answerO, fulfilledT, fulfilledO, isReplying, replyIn, lineO, sampledO, idleO, goesOnO, activatedO, idleAskedO, commandedO, writtenO, nextO}
 use Rattle.rules.specs.Statements.Sending.{levelApart, levelIn, levelO, roleApart, roleAs, Counted, Agrees}
@@ -172,7 +172,7 @@ module _ (k : Core) (o : Observer) (s : SameCore k o) (w : Verdict) (v : ℕ) wh
       let d : drivesFrame (k .service .effort .progress) ≡ true = ap (λ (x : Service). drivesFrame (x .effort .progress)) e ∙ (unfold made drivesFrame atStage in b) in
       heard-sender k w v d ∙ ap hearOwn j ∙ own-heard (o .tally .frame) at v ∙ rw q
 
-  hears-in : (x : Stand) (y : Reply) → k .service ≡ serviceIn x (o .tally) → JudgedIn x (o .tally) v y w → (attempting x ≡ true → drives k ≡ drivenIn x (o .tally))
+  hears-in : (x : Stand) (y : Answering) → k .service ≡ serviceIn x (o .tally) → JudgedIn x (o .tally) v y w → (attempting x ≡ true → drives k ≡ drivenIn x (o .tally))
       → heard k w v ≡ hearsIn x o (longestOf k) (drives k) v
   unfolding hearsIn serviceIn drivenIn attempting
   hears-in away y e j q = apart-heard (rw e (unfold resting atStage drivesFrame isDriving in refl)) (rw e (unfold resting atStage isAnswered isAnswering in refl))

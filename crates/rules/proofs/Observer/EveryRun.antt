@@ -4,17 +4,18 @@ use mathlib.Core.Bool.{Bool, true, false, false≢true}
 use mathlib.Core.List.{List, [], _∷_}
 use mathlib.Core.Path.{_≡_, refl, ap, _∙_, sym, subst}
 use native.Mathlib.Omega.{arith}
+use lib.Dec.{eqb}
 use Rattle.line.specs.Bits.{pick}
 use Rattle.rules.specs.Definitions.Longest.{longestOf}
-use Rattle.rules.specs.Definitions.Hearing.{hearFrame}
+use Rattle.rules.specs.Definitions.Hearing.{hearFrame, acknowledges, acknowledgeLevel, receiverIn, receiverLevel}
 use Rattle.rules.specs.Definitions.Attempt.{atStage, isDriving, drivesFrame, isAnswering, isAnswered}
 use Rattle.rules.specs.Definitions.State.{isActive}
 use Rattle.rules.specs.Definitions.Slots.{drives, sampleOf}
 use Rattle.rules.specs.Definitions.Run.{fresh, next}
-use Rattle.rules.specs.Statements.Tally.{Stand, away, between, opening, inside, answered, Tally, none, Reply, countedIn, countedT}
+use Rattle.rules.specs.Statements.Tally.{Stand, away, between, opening, inside, answered, Tally, none, Answering, countedIn, countedT}
 use Rattle.rules.specs.Statements.Observer as observer
 use Rattle.rules.specs.Statements.Observer.{Replying, silent, replies, isReplying, Observer, atReset, answerIn, answerO, accepted, seenO, nextO}
-use Rattle.rules.specs.Statements.Sending.{InSlot, DrivesReply, Outside, te, Claim, SendingOver}
+use Rattle.rules.specs.Statements.Sending.{levelIn, levelO, AtAcknowledge, InSlot, DrivesAnswered, DrivesReply, Outside, te, Claim, SendingOver}
 use Rattle.rules.specs.Statements.Settled.{SettledOver}
 use Rattle.rules.proofs.Steps.{step-of}
 use Rattle.rules.proofs.Ranges.Limits.{Fine}
@@ -31,11 +32,16 @@ use Rattle.rules.proofs.Observer.Replies.{reply-level, fits-so, same-go
 use Rattle.rules.proofs.Observer.Settled.{settles}
 use Rattle.rules.proofs.OwnFrames.Steady.{Beside, Steady, steady-fresh, steady-next}
 use Rattle.rules.proofs.Logic.{clash, left}
+use Rattle.rules.specs.declared.Phase.{Phase}
+use Rattle.rules.specs.declared.Phase.the-variants.{Quiet, Start, Body, Acknowledge, End}
 use Rattle.rules.specs.declared.Reception.{Reception}
 use Rattle.rules.specs.declared.Activity.{Activity}
 use Rattle.rules.specs.declared.Controller.{Controller}
 use Rattle.rules.specs.declared.Event.{Event}
 use Rattle.rules.specs.declared.Event.the-variants.{Reset, Write, Read, Slot}
+
+one-not : _≡_ {A = ℕ} 1 0 → ⊥
+one-not h = omega arith
 
 module _ (c : Controller) (o : Observer) (s : Same c o) where
   seen-in : (e : Event) → beside.seenIn c (o .tally) e ≡ observer.seenIn c o e
@@ -53,6 +59,48 @@ module _ (c : Controller) (o : Observer) (s : Same c o) where
   seen-same : (e : Event) → seenT c (o .tally) e ≡ seenO c o e
   unfolding seenT seenO
   seen-same e = ap (λ (t : Tally). pick (accepted c e) t (o .tally)) (seen-in e)
+
+  -- ---- an answered request
+
+  dominant-in : (p : Phase) → o .frame .place .phase ≡ p → receiverIn p (o .frame) ≡ 0 → AtAcknowledge (o .frame)
+  unfolding receiverIn acknowledgeLevel
+  dominant-in Quiet e h = absurd (one-not h)
+  dominant-in Start e h = absurd (one-not h)
+  dominant-in Body e h = absurd (one-not h)
+  dominant-in Acknowledge e h = record { phase = e; owed = go (eqb (o .frame .place .at) 0) (acknowledges (o .frame)) h }
+    where
+      go : (a b : Bool) → _≡_ {A = ℕ} (pick a 1 (pick b 0 1)) 0 → b ≡ true
+      go true b h = absurd (one-not h)
+      go false true h = refl
+      go false false h = absurd (one-not h)
+  dominant-in End e h = absurd (one-not h)
+
+  dominant : receiverLevel (o .frame) ≡ 0 → AtAcknowledge (o .frame)
+  unfolding receiverLevel
+  dominant h = dominant-in (o .frame .place .phase) refl h
+
+  answered-level : (start n : ℕ) → o .tally .stand ≡ answered start n → levelO o ≡ pick (isActive (o .activity .mode)) (receiverLevel (o .frame)) 1
+  unfolding levelO levelIn
+  answered-level start n e = rw e
+
+  answering : (e : Event) → InSlot e (DrivesAnswered (o .tally .stand) (o .frame) (drives (c .core)))
+  answering Reset = tt
+  answering (Write a v) = tt
+  answering (Read a) = tt
+  answering (Slot l) = go (o .tally .stand) refl
+    where
+      active : (b : Bool) → isActive (o .activity .mode) ≡ b → pick b (receiverLevel (o .frame)) 1 ≡ 0 → receiverLevel (o .frame) ≡ 0
+      active true a h = h
+      active false a h = absurd (one-not h)
+
+      go : (x : Stand) → o .tally .stand ≡ x → DrivesAnswered x (o .frame) (drives (c .core))
+      go away e = tt
+      go between e = tt
+      go (opening start) e = tt
+      go (inside start levels) e = tt
+      go (answered start n) e = λ h.
+          let k : pick (isActive (o .activity .mode)) (receiverLevel (o .frame)) 1 ≡ 0 = sym (agrees c o s .level ∙ answered-level start n e) ∙ h in
+          dominant (active (isActive (o .activity .mode)) refl k)
 
   -- ---- a reply under way
 
@@ -75,7 +123,7 @@ module _ (c : Controller) (o : Observer) (s : Same c o) where
       beside-it : Beside (c .core .service) (c .core .reception)
       beside-it = steady .beside (same-going (s .core .reply) ∙ g)
 
-      still : (x : Stand) → c .core .service ≡ serviceIn x (o .tally) → (d v : ℕ) (y : Reply) → countedIn x (o .tally) d v y ≡ o .tally
+      still : (x : Stand) → c .core .service ≡ serviceIn x (o .tally) → (d v : ℕ) (y : Answering) → countedIn x (o .tally) d v y ≡ o .tally
       unfolding countedIn serviceIn
       still away e d v y = refl
       still between e d v y = refl
@@ -101,6 +149,7 @@ module _ (c : Controller) (o : Observer) (s : Same c o) where
         agrees = agrees c o s;
         fits = h .fits;
         driven = h .driven;
+        answer = λ x. answering e;
         errors = rw (← q) (h .errors);
         slots = rw (← q) (h .slots);
         raised = rw (← q) (h .raised);

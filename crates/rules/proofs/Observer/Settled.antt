@@ -26,7 +26,7 @@ use Rattle.rules.specs.Definitions.Slots.{roleIn, replyVerdict, heard, d
 use Rattle.rules.specs.Definitions.Host.{resetAll, resets, sleeps, modeCommanded, keptByte, flagsCleared, coreWritten, serviceAsked, stoppedCore, byteWritten, hostWritten, lineStatusOf, statusRead, byteRead, accessRefusals, readRefusals}
 use Rattle.rules.specs.Definitions.Run as run
 use Rattle.rules.specs.Definitions.Run.{accept, refuse, hostRead, restedSlot, step, next}
-use Rattle.rules.specs.Statements.Tally.{Stand, away, between, opening, inside, answered, Tally, Reply, none, requestT, withStand, withAbort, withRear, countedIn, countedT, endedT, chosenT, choiceT, chooseIn, chooseT, startIn, startT, askedIn, askedT, asks, isAway}
+use Rattle.rules.specs.Statements.Tally.{Stand, away, between, opening, inside, answered, Tally, Answering, none, requestT, withStand, withAbort, withRear, countedIn, countedT, endedT, chosenT, choiceT, chooseIn, chooseT, startIn, startT, askedIn, askedT, asks, isAway}
 use Rattle.rules.specs.Statements.Observer.{freeO, Replying, silent, replies, Observer, fitting, heardDelivery, deliveredApart, deliveredIn, isStored, answerIn, answerO, pausing, waits, fulfilledT, isReplying, fulfilledO, sampledO, goesOnO, accepted, nextO}
 use Rattle.rules.specs.Statements.Sending.{levelO}
 use Rattle.rules.specs.Statements.Settled as settlement
@@ -207,7 +207,7 @@ away-unended t j e a h = rw e (record { errors = unfold exhaustedIn in le-ltb (t
     none-pauses (inside start levels) i = absurd (false≢true (unfold isAway in i))
     none-pauses (answered start n) i = absurd (false≢true (unfold isAway in i))
 
-away-counted : (t : Tally) (d v : ℕ) (y : Reply) → isAway (t .stand) ≡ true → countedT t d v y ≡ t
+away-counted : (t : Tally) (d v : ℕ) (y : Answering) → isAway (t .stand) ≡ true → countedT t d v y ≡ t
 unfolding countedT
 away-counted t d v y = go (t .stand)
   where
@@ -527,7 +527,7 @@ module _ (c : Controller) (o : Observer) (s : Same c o) (l : ℕ) where
   answers-same = ap (λ (x : Reception). answerIn (hearFrame x (longestOf (c .core)) v) x) (s .core .frame)
 
   counts-same : countedT t (drives (c .core)) v (answerC c v) ≡ j
-  counts-same = ap (λ (y : Reply). countedT t (drives (c .core)) v y) answers-same
+  counts-same = ap (λ (y : Answering). countedT t (drives (c .core)) v y) answers-same
 
   told : Tells t j w done
   told =

@@ -23,7 +23,7 @@ use Rattle.rules.specs.Definitions.Registers.{both, CV, ACKE, FCSE}
 use Rattle.rules.specs.Definitions.Channels.{bufferOf}
 use Rattle.rules.specs.Definitions.Mailbox.{dataIn, frameWith, replyFrame, coded}
 use Rattle.rules.specs.Definitions.Reception.{free, underWay, startEnded, replyLow}
-use Rattle.rules.specs.Definitions.Attempt.{noCounts, atStage, isBetween, betweenAttempts, waits, drivesFrame, levelAt, due, judgeSlot, judge, slotSpent, lostSpent, errorSpent, advance, exhausted}
+use Rattle.rules.specs.Definitions.Attempt.{noCounts, atStage, isBetween, betweenAttempts, waits, drivesFrame, levelAt, due, judgeSlot, slotSpent, lostSpent, errorSpent, advance, exhausted}
 use Rattle.rules.specs.Definitions.Service.{resting, stopped, endingOf, settled, memoryEnded, retriesOf, reportSending, reportJudged, reportEnded, noReply, judgeReply, replyMoved, replied, memoryReplied, reportReplied, replyBy, replyTaken, chosen, choiceOf, choose, opened, started, abortAsked, rearAsked, hearOwn}
 use Rattle.rules.proofs.Judged.{Judged, went, lost, broke, done, answered, slot-judged, Awaited, on, broken, fulfilled, Tried, unjudged, judged, awaited}
 use Rattle.rules.proofs.Ranges.Limits.{ReplyLimits, ServiceLimits, RetriesLimits, ReportLimits}

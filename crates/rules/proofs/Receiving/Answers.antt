@@ -26,7 +26,7 @@ use Rattle.rules.specs.Definitions.Host.{resetAll, resets, sleeps, hostW
 use Rattle.rules.specs.Definitions.Run as run
 use Rattle.rules.specs.Definitions.Run.{fresh, accept, restedSlot, step, next}
 use Rattle.rules.specs.Statements.Tally as tally
-use Rattle.rules.specs.Statements.Tally.{Stand, away, between, opening, inside, answered, Tally, none, Verdict, goes, contended, failed, sent, answers, Reply, comes, taken, wasted, dueLevel, openHalfT, arbitratedT, requestT, verdict, spentT, judgedAs, repliedAs, countedIn, countedT, givenUp, endedIn, endedT, chosenT, choiceT, chooseIn, chooseT, startIn, startT, asks, askedIn, askedT}
+use Rattle.rules.specs.Statements.Tally.{Stand, away, between, opening, inside, answered, Tally, none, Verdict, goes, contended, failed, sent, answers, Answering, comes, taken, wasted, dueLevel, openHalfT, arbitratedT, requestT, verdict, spentT, judgedAs, repliedAs, countedIn, countedT, givenUp, endedIn, endedT, chosenT, choiceT, chooseIn, chooseT, startIn, startT, asks, askedIn, askedT}
 use Rattle.rules.specs.Statements.Observer.{heardDelivery, isStored, answerIn, fulfilledT, accepted}
 use Rattle.rules.specs.Statements.Receiving.{Log, noLog, sampledLog, logIn, logNext}
 use Rattle.rules.proofs.Logic.{both-true}
@@ -205,7 +205,7 @@ module _ (c : Controller) (t : Tally) (l : Log) (i : Logs c l) (j : Joined c t) 
   rtr-samples p k d s h =
       own-aligned (i .stands .stage) (unfold drivesFrame in (rw s (unfold made atStage in d))) (ap (λ (x : Service). x .effort .progress .at) s ∙ (unfold made atStage in h))
 
-  counted-aligned : (s : Stand) → t .stand ≡ s → (d v : ℕ) (y : Reply) (m : List ℕ) → Aligned s l → c .core .service ≡ serviceIn s t → A (sampledLog l v m) (countedIn s t d v y)
+  counted-aligned : (s : Stand) → t .stand ≡ s → (d v : ℕ) (y : Answering) (m : List ℕ) → Aligned s l → c .core .service ≡ serviceIn s t → A (sampledLog l v m) (countedIn s t d v y)
   unfolding countedIn sampledLog serviceIn
   counted-aligned away q d v y m a s = at-stand _ t away q tt
   counted-aligned between q d v y m a s = at-stand _ t between q tt
@@ -235,7 +235,7 @@ module _ (c : Controller) (t : Tally) (l : Log) (i : Logs c l) (j : Joined c t) 
 
 -- ---- an answer that goes on
 
-unfoldable isComing : Reply → Bool
+unfoldable isComing : Answering → Bool
 isComing comes = true
 isComing taken = false
 isComing wasted = false

@@ -14,7 +14,7 @@ use Rattle.rules.specs.Definitions.Slots as slot-rule
 use Rattle.rules.specs.Definitions.Slots.{heard, drives, sampleOf}
 use Rattle.rules.specs.Definitions.Host.{resets, sleeps}
 use Rattle.rules.specs.Definitions.Run.{next}
-use Rattle.rules.specs.Statements.Tally.{Reply, Tally, none, countedT, endedT, chooseT, startT, askedT, isAway}
+use Rattle.rules.specs.Statements.Tally.{Answering, Tally, none, countedT, endedT, chooseT, startT, askedT, isAway}
 use Rattle.rules.specs.Statements.Observer.{answerIn, fulfilledT, accepted}
 use Rattle.rules.specs.Statements.Sending.{Drives, InSlot, te, boundOf}
 use Rattle.rules.specs.declared.Controller.{Controller}
@@ -22,7 +22,7 @@ use Rattle.rules.specs.declared.Event.{Event}
 use Rattle.rules.specs.declared.Event.the-variants.{Reset, Write, Read, Slot}
 
 -- what a slot of the controller's frame under way is for a request that it answers
-abbrev pub answerC : Controller → ℕ → Reply
+abbrev pub answerC : Controller → ℕ → Answering
 answerC c v = answerIn (hearFrame (c .core .reception) (longestOf (c .core)) v) (c .core .reception)
 
 unfoldable pub seenIn : Controller → Tally → Event → Tally

@@ -26,7 +26,7 @@ use Rattle.rules.specs.declared.Choice.{Choice}
 use Rattle.rules.specs.declared.Choice.the-variants.{Nothing, Lowest}
 use Rattle.rules.specs.declared.Reception.{Reception}
 use Rattle.rules.specs.Statements.Tally as tally
-use Rattle.rules.specs.Statements.Tally.{Stand, away, between, opening, inside, answered, Tally, none, Verdict, goes, contended, failed, sent, answers, Reply, comes, wasted, requestT, repliedAs, dueLevel, verdict, spentT, judgedAs, countedIn, countedT, givenUp, endedIn, endedT, chosenT, choiceT, chooseIn, chooseT, startIn, startT, isAway, asks, askedIn, askedT, openHalfT, arbitratedT}
+use Rattle.rules.specs.Statements.Tally.{Stand, away, between, opening, inside, answered, Tally, none, Verdict, goes, contended, failed, sent, answers, Answering, comes, wasted, requestT, repliedAs, dueLevel, verdict, spentT, judgedAs, countedIn, countedT, givenUp, endedIn, endedT, chosenT, choiceT, chooseIn, chooseT, startIn, startT, isAway, asks, askedIn, askedT, openHalfT, arbitratedT}
 use Rattle.rules.proofs.Sending.Join.{attempting}
 use Rattle.rules.specs.Statements.Sending.{Opens, Origin, own, joined, Drives, boundOf}
 
@@ -153,7 +153,7 @@ module _ {longest : ℕ} (t : Tally) (start l : ℕ) (levels : List ℕ) (g : t 
       let m : (t .lost + t .errors + 1) * s ≤ (t .lost + t .setting + 1) * s = mul-le-mul-right s (omega arith) in
       record { errors = omega arith; slots = omega arith }
 
-  pub replied-bounded : (y : Reply) (n : ℕ) → Bounded longest (repliedAs y t start n)
+  pub replied-bounded : (y : Answering) (n : ℕ) → Bounded longest (repliedAs y t start n)
   unfolding repliedAs spentT
   replied-bounded comes n =
       let s : ℕ = size (boundOf longest (t .frame)) in
@@ -278,7 +278,7 @@ module _ {longest : ℕ} (t : Tally) (g : Good longest t) (start n : ℕ) (stand
   replied-room : n + 1 ≤ size (boundOf longest (t .frame))
   replied-room = let b = request-bound longest (t .frame) (standing .2) in let k = standing .1 in omega arith
 
-  replied-good : (y : Reply) → (y ≡ comes → start + n + 1 < size longest) → Good longest (endedT (repliedAs y t start n))
+  replied-good : (y : Answering) → (y ≡ comes → start + n + 1 < size longest) → Good longest (endedT (repliedAs y t start n))
   unfolding repliedAs spentT endedT endedIn
   replied-good comes h =
       let k = h refl in
@@ -307,14 +307,14 @@ first-led : (f : Frame) (start : ℕ) → start < size (length (f .bytes)) → g
 first-led f start h = rw (drop-cons (slots f) start 1 (long-enough f start h))
 
 -- y is what the tally takes a slot of an answer for, and an answer that comes is not yet at its longest
-abbrev pub Coming : ℕ → Stand → Reply → Type 0
+abbrev pub Coming : ℕ → Stand → Answering → Type 0
 Coming longest away y = Unit {0}
 Coming longest between y = Unit {0}
 Coming longest (opening start) y = Unit {0}
 Coming longest (inside start levels) y = Unit {0}
 Coming longest (answered start n) y = y ≡ comes → start + n + 1 < size longest
 
-counted-in : {longest : ℕ} (s : Stand) (t : Tally) → t .stand ≡ s → Good longest t → (d v : ℕ) (y : Reply) → Coming longest s y → (attempting s ≡ true → d ≡ levelIn s (t .frame))
+counted-in : {longest : ℕ} (s : Stand) (t : Tally) → t .stand ≡ s → Good longest t → (d v : ℕ) (y : Answering) → Coming longest s y → (attempting s ≡ true → d ≡ levelIn s (t .frame))
     → Good longest (endedT (countedIn s t d v y)) × Bounded longest (countedIn s t d v y)
 unfolding countedIn levelIn attempting
 counted-in away t e g d v y c q = (ended-good t g, bounded-now t g)
@@ -346,7 +346,7 @@ counted-in {longest} (inside start levels) t e g d v y c q =
 counted-in {longest} (answered start n) t e g d v y c q =
     (replied-good t g start n e y c, replied-bounded t start n [] (g .errors) (so-far t g start n e) (replied-room t g start n e) y n)
 
-pub counted-good : {longest : ℕ} (t : Tally) → Good longest t → (d v : ℕ) (y : Reply) → Coming longest (t .stand) y → (attempting (t .stand) ≡ true → d ≡ levelIn (t .stand) (t .frame))
+pub counted-good : {longest : ℕ} (t : Tally) → Good longest t → (d v : ℕ) (y : Answering) → Coming longest (t .stand) y → (attempting (t .stand) ≡ true → d ≡ levelIn (t .stand) (t .frame))
     → Good longest (endedT (countedT t d v y)) × Bounded longest (countedT t d v y)
 unfolding countedT
 counted-good t g d v y c q = counted-in (t .stand) t refl g d v y c q

@@ -15,7 +15,7 @@ use Rattle.rules.specs.Definitions.Attempt.{largest, levelAt, judgeSlot,
 use Rattle.rules.specs.Definitions.Service.{resting, stopped, endingOf, memoryEnded, retriesOf, reportSending, reportJudged}
 use Rattle.rules.specs.Definitions.Slots.{serviceJudged}
 use Rattle.rules.specs.Statements.Tally as tally
-use Rattle.rules.specs.Statements.Tally.{Stand, away, between, opening, inside, answered, Tally, goes, contended, failed, sent, answers, Reply, comes, repliedAs, verdict, spentT, judgedAs, countedIn, countedT, isAway}
+use Rattle.rules.specs.Statements.Tally.{Stand, away, between, opening, inside, answered, Tally, goes, contended, failed, sent, answers, Answering, comes, repliedAs, verdict, spentT, judgedAs, countedIn, countedT, isAway}
 use Rattle.rules.specs.Statements.Observer.{pausing}
 use Rattle.rules.specs.Statements.Settled.{sentAll, exhaustedIn, abortedIn, endedMap, retriesT}
 use Rattle.rules.proofs.Judged as judged
@@ -192,7 +192,7 @@ in-attempt t s g h stage k start levels v e =
 
 -- an answered attempt
 module _ (t : Tally) (serving : isAway (t .stand) ≡ false) (few : t .errors ≤ t .setting) (most : t .setting ≤ 15) (start n : ℕ) where
-  awaited-tells : {w : Verdict} {y : Reply} → Replies w y → Tells t (repliedAs y t start n) w (serviceJudged w (made t Receiving 0))
+  awaited-tells : {w : Verdict} {y : Answering} → Replies w y → Tells t (repliedAs y t start n) w (serviceJudged w (made t Receiving 0))
   unfolding endingOf repliedAs spentT reportJudged
   awaited-tells on =
       let j : Tally = repliedAs comes t start n in
@@ -227,7 +227,7 @@ unjudged-tells t s e g h =
     same-stand true a = off-service t t a
     same-stand false a = on-service t t a
 
-tells-in : (x : Stand) (t : Tally) (d v : ℕ) (y : Reply) (w : Verdict) → t .stand ≡ x → JudgedIn x t v y w → (attempting x ≡ true → d ≡ drivenIn x t) → t .errors ≤ t .setting → t .setting ≤ 15
+tells-in : (x : Stand) (t : Tally) (d v : ℕ) (y : Answering) (w : Verdict) → t .stand ≡ x → JudgedIn x t v y w → (attempting x ≡ true → d ≡ drivenIn x t) → t .errors ≤ t .setting → t .setting ≤ 15
     → Tells t (countedIn x t d v y) w (serviceJudged w (serviceIn x t))
 unfolding countedIn serviceIn drivenIn attempting
 tells-in away t d v y w e j q g h = rw j (unfold serviceJudged advance in unjudged-tells t resting (unfold serviceOf in rw e (unfold serviceIn in refl)) g h)
@@ -239,7 +239,7 @@ tells-in (inside start levels) t d v y w e j q g h =
     (in-attempt t (rw e (unfold isAway in refl)) g h Sending (start + length levels) start (levels ++ (levelAt (coded (t .frame)) (start + length levels) ∷ [])) v (last-level start levels (levelAt (coded (t .frame)) (start + length levels))))
 tells-in (answered start n) t d v y w e j q g h = awaited-tells t (rw e (unfold isAway in refl)) g h start n j
 
-pub tells : (s : Service) (t : Tally) (d v : ℕ) (y : Reply) (w : Verdict) → s ≡ serviceOf t → JudgedIn (t .stand) t v y w → (attempting (t .stand) ≡ true → d ≡ drivenIn (t .stand) t) → t .errors ≤ t .setting → t .setting ≤ 15
+pub tells : (s : Service) (t : Tally) (d v : ℕ) (y : Answering) (w : Verdict) → s ≡ serviceOf t → JudgedIn (t .stand) t v y w → (attempting (t .stand) ≡ true → d ≡ drivenIn (t .stand) t) → t .errors ≤ t .setting → t .setting ≤ 15
     → Tells t (countedT t d v y) w (serviceJudged w s)
 unfolding serviceOf countedT
 tells s t d v y w e j q g h = rw e (tells-in (t .stand) t d v y w refl j q g h)

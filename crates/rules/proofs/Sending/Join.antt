@@ -19,15 +19,14 @@ use Rattle.rules.specs.Definitions.Channels.{acknowledgeAsked, base, che
 use Rattle.rules.specs.Definitions.Mailbox.{asksReply, coded, codedBytes}
 use Rattle.rules.specs.Definitions.Reception.{free, underWay, startEnded}
 use Rattle.rules.specs.Definitions.Attempt as attempt
-use Rattle.rules.specs.Definitions.Attempt.{rtrSlot, isRequest, largest, moreSlots, moreAttempts, noCounts, atStage, inService, isServing, betweenAttempts, isBetween, waits, isWaiting, drivesFrame, isDriving, levelAt, due, openHalf, arbitrated, inCheck, inAcknowledge, differenceIn, difference, judgeSlot, judge, slotSpent, lostSpent, errorSpent, advance, exhausted}
+use Rattle.rules.specs.Definitions.Attempt.{rtrSlot, isRequest, largest, moreSlots, moreAttempts, noCounts, atStage, inService, isServing, betweenAttempts, isBetween, waits, isWaiting, drivesFrame, isDriving, levelAt, due, openHalf, arbitrated, inCheck, inAcknowledge, differenceIn, difference, judgeSlot, slotSpent, lostSpent, errorSpent, advance, exhausted}
 use Rattle.rules.specs.Definitions.Service.{resting, stopped, endingOf, settled, chosen, choiceOf, opened, started, abortAsked, rearAsked, aborts}
 use Rattle.rules.specs.Definitions.Slots.{serviceJudged}
 use Rattle.rules.specs.Definitions.Host.{rearCommanded, serviceAsked}
 use Rattle.rules.proofs.Judged as judged
 use Rattle.rules.proofs.Judged.{Judged, went, lost, broke, done, slot-judged}
-use Rattle.rules.proofs.Roles.{judge-driving}
 use Rattle.rules.specs.Statements.Tally as tally
-use Rattle.rules.specs.Statements.Tally.{Stand, away, between, opening, inside, answered, Tally, none, goes, contended, failed, sent, answers, Reply, comes, taken, wasted, requestT, repliedAs, asksAcknowledge, dueLevel, verdict, spentT, judgedAs, countedIn, countedT, givenUp, endedIn, endedT, chosenT, choiceT, startIn, startT, isAway, asks, askedIn, askedT, openHalfT, arbitratedT}
+use Rattle.rules.specs.Statements.Tally.{Stand, away, between, opening, inside, answered, Tally, none, goes, contended, failed, sent, answers, Answering, comes, taken, wasted, requestT, repliedAs, asksAcknowledge, dueLevel, verdict, spentT, judgedAs, countedIn, countedT, givenUp, endedIn, endedT, chosenT, choiceT, startIn, startT, isAway, asks, askedIn, askedT, openHalfT, arbitratedT}
 use Rattle.rules.specs.declared.Choice.{Choice}
 use Rattle.rules.specs.declared.Choice.the-variants.{Nothing, Lowest}
 use Rattle.rules.specs.declared.Line.{Line}
@@ -268,13 +267,13 @@ attempting (inside start levels) = true
 attempting (answered start n) = false
 
 -- the verdict of an answered attempt, and what the tally takes it for
-pub data Replies : Verdict → Reply → Type 0 where
+pub data Replies : Verdict → Answering → Type 0 where
   on : Replies Answered comes
   off : (code : ℕ) → Replies (Failed code) wasted
   well : Replies Done taken
 
 -- what a sample is for the attempt, where the tally stands so
-abbrev pub JudgedIn : Stand → Tally → ℕ → Reply → Verdict → Type 0
+abbrev pub JudgedIn : Stand → Tally → ℕ → Answering → Verdict → Type 0
 JudgedIn away t v y w = w ≡ Unjudged
 JudgedIn between t v y w = w ≡ Unjudged
 JudgedIn (opening start) t v y w = w ≡ judgeSlot (coded (t .frame)) start v
@@ -307,13 +306,13 @@ pub answered-off : (t : Tally) (start n code : ℕ) → serviceJudged (Failed co
 unfolding repliedAs
 answered-off t start n code = has-failed t Receiving 0 start [] code ∙ unfold judgedAs in refl
 
-settle-replied : {w : Verdict} {y : Reply} → Replies w y → (t : Tally) (start n : ℕ) → t .errors ≤ 15 → settledAfter w (made t Receiving 0) ≡ serviceOf (endedT (repliedAs y t start n))
+settle-replied : {w : Verdict} {y : Answering} → Replies w y → (t : Tally) (start n : ℕ) → t .errors ≤ 15 → settledAfter w (made t Receiving 0) ≡ serviceOf (endedT (repliedAs y t start n))
 unfolding endingOf
 settle-replied on t start n h = rw (answered-on t start n) (settled-is (repliedAs comes t start n) (unfold repliedAs spentT in omega arith))
 settle-replied (off code) t start n h = rw (answered-off t start n code) (settled-is (repliedAs wasted t start n) (unfold repliedAs spentT in omega arith))
 settle-replied well t start n h = unfold settled serviceOf serviceIn endedT endedIn repliedAs spentT none in refl
 
-slot-settled-in : (s : Stand) (t : Tally) (d v : ℕ) (y : Reply) (w : Verdict) → t .stand ≡ s → JudgedIn s t v y w → (attempting s ≡ true → d ≡ drivenIn s t) → t .errors ≤ 15
+slot-settled-in : (s : Stand) (t : Tally) (d v : ℕ) (y : Answering) (w : Verdict) → t .stand ≡ s → JudgedIn s t v y w → (attempting s ≡ true → d ≡ drivenIn s t) → t .errors ≤ 15
     → settledAfter w (serviceIn s t) ≡ serviceOf (endedT (countedIn s t d v y))
 unfolding countedIn drivenIn attempting
 slot-settled-in away t d v y w e j q h = rw j (settled-away t e)
@@ -326,7 +325,7 @@ slot-settled-in (inside start levels) t d v y w e j q h =
 slot-settled-in (answered start n) t d v y w e j q h = unfold serviceIn in settle-replied j t start n h
 
 -- the service after a sample is that of the tally after it
-pub slot-settled : (s : Service) (t : Tally) (d v : ℕ) (y : Reply) (w : Verdict) → s ≡ serviceOf t → JudgedIn (t .stand) t v y w → (attempting (t .stand) ≡ true → d ≡ drivenIn (t .stand) t) → t .errors ≤ 15
+pub slot-settled : (s : Service) (t : Tally) (d v : ℕ) (y : Answering) (w : Verdict) → s ≡ serviceOf t → JudgedIn (t .stand) t v y w → (attempting (t .stand) ≡ true → d ≡ drivenIn (t .stand) t) → t .errors ≤ 15
     → settledAfter w s ≡ serviceOf (endedT (countedT t d v y))
 unfolding serviceOf countedT
 slot-settled s t d v y w e j q h = rw e (slot-settled-in (t .stand) t d v y w refl j q h)

@@ -1,5 +1,5 @@
 -- An attempt to send: its judgement, slot by slot, and what it spends (01, Sending).
---   sentSlots, levelAt == the fixed frame's slots, and the level of slot k        judgeSlot, judge == what a sample is for the attempt
+--   sentSlots, levelAt == the fixed frame's slots, and the level of slot k        judgeSlot == what a sample is for the attempt, or for a reply
 --   advance == the effort after it        exhausted == error R + 1
 use Prim.Native.Nat.{ℕ, _+_, _*_, _%_}
 use mathlib.Core.Bool.{Bool, true, false}
@@ -182,9 +182,6 @@ unfoldable pub judgeSlot : Coded → ℕ → ℕ → Verdict
 judgeSlot x k v =
     pick (eqb v (due x k)) (pick (ltb (k + 1) (size (x .n))) Goes Done)
     (pick (both (eqb k rtrSlot) (isRequest x)) Answered (difference (x .n) k (levelAt x k)))
-
-unfoldable pub judge : Effort → ℕ → Verdict
-judge e v = pick (drivesFrame (e .progress)) (judgeSlot (e .frame) (e .progress .at) v) Unjudged
 
 -- ---- what the attempt spends
 

@@ -1,6 +1,6 @@
 -- The mailbox and what the controller writes to the memory map (01, Receiving, Sending; 000, Mailbox).
 --   mailboxAt == an address in the mailbox        stored == a frame in the mailbox
---   sentFrame, coded == the frame that a channel sends, and its bytes        retagged, marked.. == what is written to a channel
+--   sentFrame, replyFrame, coded == the frame that a channel sends, or replies with, and its bytes        retagged, marked.. == what is written to a channel
 use Prim.Native.Nat.{ℕ, zero, suc, _+_, _-_, _*_, _/_, _%_}
 use mathlib.Core.Bool.{Bool, false}
 use mathlib.Core.List.{List, [], _∷_, _++_}

@@ -1,5 +1,5 @@
 -- The line, and the frame under way (01, Receiving; Sending, "Free line").
---   unsettled, afterGood, free, takesStart, counted == the line        quiet, underWay, startEnded, commandEnded == where the frame stands
+--   unsettled, afterGood, free, takesStart, counted == the line        quiet, underWay, startEnded, commandEnded, readsAsked == where the frame stands
 --   with.. == the frame under way with one of its fields changed        followed == the frame once a sample that is no fault is taken
 use Prim.Native.Nat.{ℕ, _+_, _-_, _*_, _/_, _%_}
 use mathlib.Core.Bool.{Bool, true, false}

@@ -1,6 +1,6 @@
--- A slot of an active controller (01, Receiving and Sending): the sample is judged with all its effects; then a waiting idle that has come due; then the choice;
+-- A slot of an active controller (01, Receiving and Sending; 02, Req 01): the sample is judged with all its effects; then a waiting idle that has come due; then the choice;
 -- then a start; then the answer.
---   roleIn == what the model is in the frame under way        heard, delivers, ending == what a sample is        memoryJudged, coreJudged == memory map and state with its effects
+--   roleIn == what the model is in the frame under way        verdict, replyVerdict, heard, delivers, ending == what a sample is        memoryJudged, coreJudged == memory map and state with its effects
 --   idleDue, choiceMade, startMade == what follows        drives == the level for the next slot
 use Prim.Native.Nat.{ℕ}
 use mathlib.Core.Bool.{Bool, not}

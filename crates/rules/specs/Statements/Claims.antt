@@ -72,6 +72,10 @@ pub record Runs : Type 0 where
   pub lost-twice : Counts (seenOver fresh atReset (setUp ++ (ones 12 ++ (overdriven ++ (ones 12 ++ (overdriven ++ (ones 12 ++ echoed)))))) (Slot 1)) 2 0 82
   pub join : Counts (seenOver fresh atReset (setUp ++ (Write 0x01 0x22 ∷ (ones 12 ++ echoed))) (Slot 1)) 0 0 50
   pub abort : Counts (seenOver fresh atReset (setUp ++ (ones 12 ++ (Slot 0 ∷ Slot 0 ∷ Slot 0 ∷ Write 0x13 0x0C ∷ []))) (Slot 1)) 0 1 4
+  -- 02, Req 01
+  pub answer-taken : Counts (seenOver fresh atReset (heardBy (Write 0x19 0x3B ∷ Write 0x01 0x23 ∷ []) (take 79 (slots (framed 10 (0xA5 ∷ 0x3C ∷ []))))) (Slot 1)) 0 0 80
+  pub answer-wasted : Counts (seenOver fresh atReset (heardBy (Write 0x19 0x3B ∷ Write 0x01 0x23 ∷ Write 0x1B 0x10 ∷ []) (take 79 (slots (framed 10 (0xA5 ∷ 0x3C ∷ []))))) (Slot 1)) 0 1 80
+  pub longest-answer : Counts (seenOver fresh atReset (heardBy (Write 0x19 0x3B ∷ Write 0x01 0x03 ∷ []) (take 359 (slots (framed 10 (replicate 30 0))))) (Slot 0)) 0 1 360
   -- tag and R written after the choice do not touch the service; the slot of a loss counts; a refused slot leaves the mode
   pub frame-kept : drives (ran fresh (setUp ++ (ones 5 ++ (Write 0x10 0x02 ∷ (ones 7 ++ levels (take 10 (slots sent)))))) .core) ≡ 1
   pub setting-kept : ran fresh (setUp ++ (ones 5 ++ (Write 0x01 0x03 ∷ (ones 7 ++ (Slot 1 ∷ []))))) .core .report .flags .te ≡ false
@@ -156,7 +160,7 @@ pub record Courses : Type 0 where
   pub high-bits-masked : sees (heardBy (Write 0x18 0x52 ∷ Write 0x1E 0x00 ∷ []) (slots asking)) (0x09 ∷ 0x18 ∷ 0x19 ∷ 0x1B ∷ []) ≡ 0x82 ∷ 0xF2 ∷ 0x39 ∷ 0x19 ∷ []
   pub high-bits-compared : sees (heardBy (Write 0x18 0x52 ∷ []) (slots (framed 8 []))) (0x09 ∷ 0x18 ∷ 0x1B ∷ []) ≡ 0x80 ∷ 0x52 ∷ 0x18 ∷ []
   pub low-bits-compared : sees (heardBy (Write 0x19 0x99 ∷ []) (slots (framed 8 []))) (0x09 ∷ 0x19 ∷ 0x1B ∷ []) ≡ 0x80 ∷ 0x99 ∷ 0x18 ∷ []
-  -- ignored: EXT 0; R/W 0 with RTR 1; R/W 1 with RTR 0; a channel with CHRx 1
+  -- ignored: EXT 0; R/W 0 with RTR 1; R/W 1 with RTR 0 where no channel awaits a reply; a channel with CHRx 1
   pub ext-0 : sees (heardBy [] (slots (framed 4 []))) (0x07 ∷ 0x09 ∷ 0x1B ∷ []) ≡ 0x00 ∷ 0x80 ∷ 0x18 ∷ []
   pub rtr-without-rw : sees (heardBy [] (slots (framed 13 (0xA5 ∷ [])))) (0x07 ∷ 0x09 ∷ 0x1B ∷ []) ≡ 0x00 ∷ 0x80 ∷ 0x18 ∷ []
   pub rw-without-rtr : sees (heardBy (Write 0x19 0x3A ∷ Write 0x1B 0x1A ∷ []) (slots (framed 14 []))) (0x07 ∷ 0x09 ∷ 0x1B ∷ []) ≡ 0x00 ∷ 0x80 ∷ 0x1A ∷ []
@@ -257,11 +261,14 @@ pub record Courses : Type 0 where
   pub reply-failed : sees (heardBy (Write 0x19 0x3A ∷ Write 0x80 0xA5 ∷ Write 0x81 0x3C ∷ []) (take 31 (slots (framed 10 (0xA5 ∷ 0x3C ∷ []))) ++ (1 ∷ []))) (0x04 ∷ 0x05 ∷ 0x07 ∷ 0x09 ∷ 0x1B ∷ []) ≡ 0x00 ∷ 0x00 ∷ 0x02 ∷ 0x84 ∷ 0x1C ∷ []
   -- an answer that does not fit in the last attempt: TE, CHER and CHTx at the request's channel
   pub answer-exhausts : sees (heardBy (Write 0x19 0x3B ∷ Write 0x01 0x03 ∷ Write 0x1B 0x10 ∷ []) (slots (framed 10 (0xA5 ∷ 0x3C ∷ [])))) (0x04 ∷ 0x05 ∷ 0x06 ∷ 0x09 ∷ 0x1B ∷ []) ≡ 0x00 ∷ 0x01 ∷ 0x01 ∷ 0x94 ∷ 0x16 ∷ []
-  -- no reply: 1,0,1,0 of a lower channel matches; CHER is 1; EXT is 0; the frame is the model's own request
+  -- no reply: 1,0,1,0 of a lower channel matches, while 1,0,1,1 bars nothing; CHER is 1, and a higher channel replies; EXT is 0; R/W is 0; another tag; the model's own request
   pub reply-barred : pin (heardBy (Write 0x19 0x3A ∷ Write 0x1B 0x1A ∷ Write 0x20 0xF2 ∷ Write 0x21 0x3A ∷ Write 0x22 0x10 ∷ Write 0x23 0x18 ∷ Write 0x26 0xFF ∷ Write 0x27 0xF0 ∷ []) (take 28 (slots (framed 11 [])))) ≡ 1
   pub reply-not-barred : pin (heardBy (Write 0x19 0x3A ∷ Write 0x1B 0x1B ∷ Write 0x20 0xF2 ∷ Write 0x21 0x3A ∷ Write 0x22 0x10 ∷ Write 0x23 0x18 ∷ Write 0x26 0xFF ∷ Write 0x27 0xF0 ∷ []) (take 28 (slots (framed 11 [])))) ≡ 0
   pub reply-in-error : pin (heardBy (Write 0x19 0x3A ∷ Write 0x1B 0x1C ∷ []) (take 28 (slots (framed 11 [])))) ≡ 1
+  pub reply-passed-over : pin (heardBy (Write 0x19 0x3A ∷ Write 0x1B 0x1C ∷ Write 0x20 0xF2 ∷ Write 0x21 0x3A ∷ Write 0x22 0x10 ∷ Write 0x23 0x18 ∷ Write 0x26 0xFF ∷ Write 0x27 0xF0 ∷ []) (take 28 (slots (framed 11 [])))) ≡ 0
   pub reply-ext-0 : pin (heardBy (Write 0x19 0x3A ∷ []) (take 28 (slots (framed 3 [])))) ≡ 1
+  pub reply-rw-0 : pin (heardBy (Write 0x19 0x3A ∷ []) (take 28 (slots (framed 9 [])))) ≡ 1
+  pub reply-unmatched : pin (heardBy (Write 0x19 0x2A ∷ []) (take 28 (slots (framed 11 [])))) ≡ 1
   pub reply-not-to-itself : pin (heardBy (Write 0x19 0x3B ∷ Write 0x01 0x23 ∷ Write 0x20 0xF2 ∷ Write 0x21 0x3A ∷ Write 0x22 0x10 ∷ Write 0x23 0x18 ∷ Write 0x26 0xFF ∷ Write 0x27 0xF0 ∷ []) (slots (framed 11 []))) ≡ 1
   -- its check is over the identifier and the RAK heard, and over the data bytes of the R/W slot
   pub reply-as-heard : sees (heardBy (Write 0x19 0x3A ∷ Write 0x80 0xA5 ∷ Write 0x81 0x3C ∷ Write 0x1F 0x00 ∷ []) (slots (record { identifier = 0xF20; command = 14; bytes = 0xA5 ∷ 0x3C ∷ []; acknowledge = true }))) (0x09 ∷ 0x18 ∷ 0x19 ∷ 0x1B ∷ []) ≡ 0x88 ∷ 0xF2 ∷ 0x3A ∷ 0x1B ∷ []

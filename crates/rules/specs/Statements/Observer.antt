@@ -1,8 +1,9 @@
 -- The claims' own record of a run (01, Sending: "is fed the run's events and driven levels; choices, starts and ends follow by these rules, not from the program's record").
 -- Beside the events, whether each was accepted, the driven and the sampled levels, the memory map and the longest data length it reads nothing of the controller: it keeps
--- its own mode, line, frame under way and tally.
+-- its own mode, line, frame under way, tally and immediate reply.
 --   Past == the line between frames        freeO, startsO == it is free, it takes a start        codeT == the code of an attempt's error
---   hearsO == what a sample is for the line and the frame under way        sampledO, idleO, goesOnO == a slot        writtenO == a host write
+--   hearsO == what a sample is for the line and the frame under way        heardDelivery, answerO == what another module's frame does, and for a request that it answers
+--   fulfilledO == a stored reply ends a waiting request        Replying, replyIn == an immediate reply        sampledO, idleO, goesOnO == a slot        writtenO == a host write
 --   nextO == the observer after an event
 use Prim.Native.Nat.{ℕ, suc, zero, _+_, _%_}
 use mathlib.Core.Bool.{Bool, true, false, not}
@@ -23,7 +24,7 @@ use Rattle.rules.specs.Definitions.State.{isActive, inMode}
 use Rattle.rules.specs.Definitions.Slots.{receptionJudged, drives, sampleOf}
 use Rattle.rules.specs.Definitions.Host.{resets, sleeps}
 use Rattle.rules.specs.Definitions.Run.{step, next}
-use Rattle.rules.specs.Statements.Tally.{Stand, away, between, opening, inside, answered, Tally, none, Verdict, goes, contended, failed, sent, answers, Reply, comes, taken, wasted, requestT, openHalfT, verdict, countedT, endedT, chooseT, startT, askedT, isAway}
+use Rattle.rules.specs.Statements.Tally.{Stand, away, between, opening, inside, answered, Tally, none, Verdict, goes, contended, failed, sent, answers, Answering, comes, taken, wasted, requestT, openHalfT, verdict, countedT, endedT, chooseT, startT, askedT, isAway}
 use Rattle.rules.specs.declared.Mode.the-variants.{Idle, Active, Asleep}
 use Rattle.rules.specs.declared.Activity.{Activity}
 use Rattle.rules.specs.declared.Reception.{Reception}
@@ -163,13 +164,13 @@ isStored Overflowed = false
 isStored Spoiled = false
 
 -- an answered request: "if the frame ends valid and fits the channel that takes it .., else, or where none takes it .., as an error" (02, Req 01)
-unfoldable pub answerIn : Hearing → Reception → Reply
+unfoldable pub answerIn : Hearing → Reception → Answering
 answerIn Silent r = comes
 answerIn Follows r = comes
 answerIn (Fault code) r = wasted
 answerIn Good r = pick (isStored (heardDelivery Good r)) taken wasted
 
-unfoldable pub answerO : Observer → ℕ → ℕ → Reply
+unfoldable pub answerO : Observer → ℕ → ℕ → Answering
 answerO o longest v = answerIn (hearFrame (o .frame) longest v) (o .frame)
 
 -- no attempt is under way; a first level answered and not sampled is none

@@ -1,5 +1,5 @@
 -- Demand 3, entire: one claim about the list of events.
---   Agrees == the controller stands as the observer says        Drives, DrivesReply == the levels of an attempt, of a reply        Claim == what holds of an event
+--   Agrees == the controller stands as the observer says        Drives, DrivesAnswered, DrivesReply == the levels of an attempt, an answered one, a reply        Claim == what holds of an event
 --   SendingOver == what holds of a list of events, from a controller and an observer on
 use Prim.Native.Nat.{ℕ, _+_, _*_, _≤_, min}
 use mathlib.Core.Bool.{Bool, true, false, not}
@@ -10,7 +10,7 @@ use Rattle.line.specs.Bits.{pick}
 use Rattle.line.specs.Frame.{Frame, Fits, slots, size}
 use Rattle.rules.specs.Definitions.Longest.{longestOf}
 use Rattle.rules.specs.Definitions.Reception.{free, takesStart, underWay}
-use Rattle.rules.specs.Definitions.Hearing.{receiverLevel}
+use Rattle.rules.specs.Definitions.Hearing.{acknowledges, receiverLevel}
 use Rattle.rules.specs.Definitions.Attempt.{largest}
 use Rattle.rules.specs.Definitions.State.{isActive, serving}
 use Rattle.rules.specs.Definitions.Slots.{roleIn, drives}
@@ -18,6 +18,8 @@ use Rattle.rules.specs.Definitions.Run.{next}
 use Rattle.rules.specs.Statements.Tally.{Stand, away, between, opening, inside, answered, Tally, requestT, isAway}
 use Rattle.rules.specs.Statements.Observer.{freeO, startsO, Replying, silent, replies, isReplying, Observer, accepted, seenO, nextO}
 use Rattle.rules.specs.declared.Place.{Place}
+use Rattle.rules.specs.declared.Phase.the-variants.{Acknowledge}
+use Rattle.rules.specs.declared.Reception.{Reception}
 use Rattle.rules.specs.declared.Service.{Service}
 use Rattle.rules.specs.declared.Role.{Role}
 use Rattle.rules.specs.declared.Role.the-variants.{Nobody, Receiver, Sender, Asker, Replier}
@@ -27,7 +29,8 @@ use Rattle.rules.specs.declared.Event.the-variants.{Reset, Write, Read, 
 
 -- ---- the controller stands as the observer says
 
--- the level of the next slot of an active controller: in an attempt the fixed frame's next, else dominant only where an acknowledge is owed (Receiving.antt, Acknowledges)
+-- the level of the next slot of an active controller: in an attempt and in a reply the frame's next, else dominant only where an acknowledge is owed (Receiving.antt,
+-- Acknowledges)
 unfoldable pub levelApart : Replying → Observer → ℕ
 levelApart silent o = receiverLevel (o .frame)
 levelApart (replies c f levels) o = getD (slots f) (28 + length levels) 1
@@ -93,6 +96,18 @@ Drives (opening start) f d = Origin start × Opens (d ∷ []) (drop start (slots
 Drives (inside start levels) f d = Origin start × Opens (levels ++ (d ∷ [])) (drop start (slots f))
 Drives (answered start n) f d = Unit {0}
 
+-- an answered request drives "the request up to RTR and then at most the acknowledge" (02, Req 01): dominant only where the observer's frame under way is owed one
+pub record AtAcknowledge (r : Reception) : Type 0 where
+  pub phase : r .place .phase ≡ Acknowledge
+  pub owed : acknowledges r ≡ true
+
+abbrev pub DrivesAnswered : Stand → Reception → ℕ → Type 0
+DrivesAnswered away r d = Unit {0}
+DrivesAnswered between r d = Unit {0}
+DrivesAnswered (opening start) r d = Unit {0}
+DrivesAnswered (inside start levels) r d = Unit {0}
+DrivesAnswered (answered start n) r d = d ≡ 0 → AtAcknowledge r
+
 -- an immediate reply (02, Req 01: "starts at the RTR bit .. and lasts at most 32 + 10n slots"): levels are those of the one frame f from its RTR bit on
 pub record DrivesPart (longest : ℕ) (f : Frame) (levels : List ℕ) : Type 0 where
   pub fits : Fits longest f
@@ -130,6 +145,7 @@ pub record Claim (c : Controller) (o : Observer) (e : Event) : Type 0 where
   -- the service's frame is one frame, no longer than the controller sends
   pub fits : isAway (o .tally .stand) ≡ false → Fits (longestOf (c .core)) (o .tally .frame)
   pub driven : accepted c e ≡ true → InSlot e (Drives (o .tally .stand) (o .tally .frame) (drives (c .core)))
+  pub answer : accepted c e ≡ true → InSlot e (DrivesAnswered (o .tally .stand) (o .frame) (drives (c .core)))
   -- "At most R + 1 attempts end in error."
   pub errors : seenO c o e .errors ≤ seenO c o e .setting + 1
   -- "The slots spent in attempts are at most (C + R + 1) × (60 + 10n)."; for a request "n reads 30 in its slot bound" (02, Req 01): the longest length

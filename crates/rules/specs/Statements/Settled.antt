@@ -1,6 +1,6 @@
 -- What every event leaves: each byte of the memory map, each register that the controller writes, each status bit, and a slot's answer, from what stood before, the
--- event and the observer (01, Memory map, Receiving, Sending).
---   sentAll, exhaustedIn, abortedIn == how a service ends        deliveredIn, deliveredMap == what another module's frame does
+-- event and the observer (01, Memory map, Receiving, Sending; 02, Req 01).
+--   sentAll, exhaustedIn, abortedIn == how a service ends        deliveredMap == what another module's frame does        Replied == how a reply ends
 --   memoryO, sendingO, messageO, errorO, flagO == a byte or register after an event        readO == what a host reads        Settles == the claim on an event
 --   SettledOver == the claim on a list of events, from a controller and an observer on
 use Prim.Native.Nat.{ℕ, _+_, _%_}
@@ -36,7 +36,7 @@ use Rattle.rules.specs.declared.Event.the-variants.{Reset, Write, Read, 
 
 -- ---- how a service ends: t is the tally before the event, j once its sample is judged or what the host asks is taken
 
--- an attempt has sent its last slot: in service before, in none then
+-- an attempt has sent its last slot, or its answer is taken: in service before, in none then
 unfoldable pub sentAll : Tally → Tally → Bool
 sentAll t j = both (not (isAway (t .stand))) (isAway (j .stand))
 

@@ -125,7 +125,7 @@ unfoldable pub requestT : Frame → Bool
 requestT f = eqb (f .command % 4) 3
 
 -- "Recessive driven and dominant sampled .. is lost contention"; "Every other difference is an error". "A requester that sees its recessive RTR driven dominant has not
--- lost contention: the attempt goes on as a reception" (02, Req 01): RTR's first half is slot 29
+-- lost contention: the attempt goes on as a reception" (02, Req 01): RTR's first half is slot 28, counted from 0
 unfoldable pub verdict : Frame → ℕ → ℕ → ℕ → Verdict
 verdict f k d v =
     pick (eqb v (dueLevel f k d)) (pick (ltb (k + 1) (size (length (f .bytes)))) goes sent)
@@ -147,25 +147,25 @@ judgedAs answers t start levels = spentT t (answered start (length levels))
 
 -- what a slot of the frame that answers a request is for it: "counts as success .. if the frame ends valid and fits the channel that takes it .., else .. as an error"; "the
 -- tally counts an answered attempt's slots to the end of that reception" (02, Req 01)
-pub data Reply : Type 0 where
-  comes : Reply
-  taken : Reply
-  wasted : Reply
+pub data Answering : Type 0 where
+  comes : Answering
+  taken : Answering
+  wasted : Answering
 
-unfoldable pub repliedAs : Reply → Tally → ℕ → ℕ → Tally
+unfoldable pub repliedAs : Answering → Tally → ℕ → ℕ → Tally
 repliedAs comes t start n = spentT t (answered start (n + 1))
 repliedAs taken t start n = spentT t away
 repliedAs wasted t start n = withErrors (spentT t between) (t .errors + 1)
 
 -- a driven level d, a sampled level v, and y where a request is answered
-unfoldable pub countedIn : Stand → Tally → ℕ → ℕ → Reply → Tally
+unfoldable pub countedIn : Stand → Tally → ℕ → ℕ → Answering → Tally
 countedIn away t d v y = t
 countedIn between t d v y = t
 countedIn (opening start) t d v y = judgedAs (verdict (t .frame) start d v) t start (d ∷ [])
 countedIn (inside start levels) t d v y = judgedAs (verdict (t .frame) (start + length levels) d v) t start (levels ++ (d ∷ []))
 countedIn (answered start n) t d v y = repliedAs y t start n
 
-unfoldable pub countedT : Tally → ℕ → ℕ → Reply → Tally
+unfoldable pub countedT : Tally → ℕ → ℕ → Answering → Tally
 countedT t d v y = countedIn (t .stand) t d v y
 
 -- between attempts a service is given up by error R + 1, by an abort or by REAR
