@@ -3,9 +3,9 @@ ghost use mathlib.Core.Path.{_≡_};
 ghost use Prim.Native.Nat.{_+_, _<_};
 ghost use Rattle.rules.specs.Definitions.Attempt as rule;
 ghost use Rattle.rules.specs.Definitions.Service as service_rule;
-ghost use Rattle.rules.specs.Definitions.Setters as setter;
-ghost use Rattle.rules.specs.declared.Stage.the-variants as stages;
+ghost use Rattle.rules.specs.Definitions.Mailbox as mailbox;
 ghost use Rattle.attempt.specs.Following as place;
+ghost use Rattle.attempt.specs.Level as level;
 use line::Half;
 use line::Part;
 use registers::Code;
@@ -20,10 +20,11 @@ use rules::Stage;
 use rules::Timeslots;
 use rules::Verdict;
 
-// What a sample is for the attempt, and the effort after it.
+// What a sample is for the attempt, and its place and counts after it.
 pub struct Trial {
     pub verdict: Verdict,
-    pub effort: Effort,
+    pub progress: Progress,
+    pub counters: Counters,
 }
 
 // ---- counts: they stop at their largest
@@ -57,17 +58,17 @@ fn more_attempts(t: Attempts) -> Attempts
 // The second slot of an acknowledge that is present.
 const PRESENT: u8 = 0;
 
-// The level due: the driven one, but in the second slot of the acknowledge that of a present one where RAK asks for it.
-fn due(x: Coded, k: u16) -> u8
-    ensures { λ r. ⌜ r ≡ rule.due x k ⌝ }
+// The level due where d is driven: in the second slot of the acknowledge that of a present one, where RAK asks for it.
+fn due(n: u8, low: u8, k: u16, d: u8) -> u8
+    ensures { λ r. ⌜ r ≡ level.dueLevel n low k d ⌝ }
 {
-    if k == 51 + 10 * (x.n as u16) {
-        if channels::acknowledge_asked(x.bytes[1]) {
+    if k == 51 + 10 * (n as u16) {
+        if channels::acknowledge_asked(low) {
             return PRESENT;
         }
-        return driver::level_at(x, k);
+        return d;
     }
-    driver::level_at(x, k)
+    d
 }
 
 // A plain bit or first half of a pair.
@@ -160,29 +161,36 @@ fn difference(n: u8, k: u16, d: u8) -> Verdict
 }
 
 // R/W 1 and RTR 1.
+fn asks_reply(low: u8) -> bool
+    ensures { λ r. ⌜ r ≡ mailbox.asksReply low ⌝ }
+{
+    low % 4 == 3
+}
+
+// A reply request.
 pub fn is_request(x: Coded) -> bool
     ensures { λ r. ⌜ r ≡ rule.isRequest x ⌝ }
 {
-    x.bytes[1] % 4 == 3
+    asks_reply(x.bytes[1])
 }
 
 // RTR's first half.
 const RTR_SLOT: u16 = 28;
 
-// What a sample in slot k of a frame that the model sends is for it.
-pub fn judge_slot(x: Coded, k: u16, v: u8) -> Verdict
-    ensures { λ r. ⌜ r ≡ rule.judgeSlot x k v ⌝ }
+// What a sample in slot k of a frame that the model sends is for it: n data bytes, `low` its byte 1, d the level driven.
+pub fn judge_level(n: u8, low: u8, k: u16, d: u8, v: u8) -> Verdict
+    ensures { λ r. ⌜ r ≡ level.judgeLevel n low k d v ⌝ }
 {
-    if v == due(x, k) {
-        if k as u32 + 1 < 60 + 10 * (x.n as u32) {
+    if v == due(n, low, k, d) {
+        if k as u32 + 1 < 60 + 10 * (n as u32) {
             return Verdict::Goes;
         }
         return Verdict::Done;
     }
-    if (k == RTR_SLOT) & (is_request(x)) {
+    if (k == RTR_SLOT) & (asks_reply(low)) {
         return Verdict::Answered;
     }
-    difference(x.n, k, driver::level_at(x, k))
+    difference(n, k, d)
 }
 
 // A good end, for an answered request: success where a channel stores the frame.
@@ -211,15 +219,6 @@ fn answered_as(h: Hearing, d: Delivery) -> Verdict
 
 // ---- what the attempt spends
 
-fn with_progress(e: Effort, p: Progress, c: Counters) -> Effort
-    ensures { λ r. ⌜ r ≡ setter.withCounters (setter.withProgress e p) c ⌝ }
-{
-    let mut t = e;
-    t.progress = p;
-    t.counters = c;
-    t
-}
-
 // One slot more.
 fn slot_spent(c: Counters) -> Counters
     ensures { λ r. ⌜ r ≡ rule.slotSpent c ⌝ }
@@ -247,65 +246,66 @@ fn error_spent(c: Counters) -> Counters
     t
 }
 
-// The attempt goes on to its next slot.
-fn sent_on(e: Effort) -> Effort
-    requires { ⌜ e .progress .at + 1 < 65536 ⌝ }
-    ensures { λ r. ⌜ r ≡ setter.withCounters (setter.withProgress e (rule.atStage stages.Sending (e .progress .at + 1))) (rule.slotSpent (e .counters)) ⌝ }
+// The attempt goes on to its next slot, has ended, or is answered.
+fn progress_after(w: Verdict, p: Progress) -> Progress
+    requires { ⌜ place.following w (p .at) < 65536 ⌝ }
+    ensures { λ r. ⌜ r ≡ level.progressAfter w p ⌝ }
 {
-    let c = e.counters;
-    with_progress(
-        e,
-        stage::at_stage(Stage::Sending, e.progress.at + 1),
-        slot_spent(c),
-    )
-}
-
-// The attempt has ended: the service waits again.
-fn waiting(e: Effort, c: Counters) -> Effort
-    ensures { λ r. ⌜ r ≡ setter.withCounters (setter.withProgress e (rule.atStage stages.Waiting 0)) c ⌝ }
-{
-    with_progress(e, stage::at_stage(Stage::Waiting, 0), c)
-}
-
-// The effort after a sample.
-fn advance(w: Verdict, e: Effort) -> Effort
-    requires { ⌜ place.following w (e .progress .at) < 65536 ⌝ }
-    ensures { λ r. ⌜ r ≡ rule.advance w e ⌝ }
-{
-    let c = e.counters;
     match w {
-        Verdict::Unjudged => e,
-        Verdict::Goes => sent_on(e),
-        Verdict::Lost => waiting(e, lost_spent(c)),
-        Verdict::Failed(_) => waiting(e, error_spent(c)),
-        Verdict::Done => waiting(e, slot_spent(c)),
-        Verdict::Answered => with_progress(e, stage::at_stage(Stage::Receiving, 0), slot_spent(c)),
+        Verdict::Unjudged => p,
+        Verdict::Goes => stage::at_stage(Stage::Sending, p.at + 1),
+        Verdict::Lost => stage::at_stage(Stage::Waiting, 0),
+        Verdict::Failed(_) => stage::at_stage(Stage::Waiting, 0),
+        Verdict::Done => stage::at_stage(Stage::Waiting, 0),
+        Verdict::Answered => stage::at_stage(Stage::Receiving, 0),
     }
 }
 
-// A slot of the attempt: what its sample is, and the effort after it.
-pub fn tried(e: Effort, v: u8) -> Trial
-    ensures verdict { λ r. ⌜ r .verdict ≡ rule.judgeSlot (e .frame) (e .progress .at) v ⌝ }
-    ensures effort { λ r. ⌜ r .effort ≡ rule.advance (rule.judgeSlot (e .frame) (e .progress .at) v) e ⌝ }
+// What it has spent.
+fn counters_after(w: Verdict, c: Counters) -> Counters
+    ensures { λ r. ⌜ r ≡ level.countersAfter w c ⌝ }
 {
-    let x = e.frame;
-    let w = judge_slot(x, e.progress.at, v);
+    match w {
+        Verdict::Unjudged => c,
+        Verdict::Goes => slot_spent(c),
+        Verdict::Lost => lost_spent(c),
+        Verdict::Failed(_) => error_spent(c),
+        Verdict::Done => slot_spent(c),
+        Verdict::Answered => slot_spent(c),
+    }
+}
+
+fn advance(w: Verdict, p: Progress, c: Counters) -> Trial
+    requires { ⌜ place.following w (p .at) < 65536 ⌝ }
+    ensures verdict { λ r. ⌜ r .verdict ≡ w ⌝ }
+    ensures progress { λ r. ⌜ r .progress ≡ level.progressAfter w p ⌝ }
+    ensures counters { λ r. ⌜ r .counters ≡ level.countersAfter w c ⌝ }
+{
     Trial {
         verdict: w,
-        effort: advance(w, e),
+        progress: progress_after(w, p),
+        counters: counters_after(w, c),
     }
+}
+
+// A slot of the attempt in which d is driven: what its sample is, and place and counts after it.
+pub fn tried(n: u8, low: u8, d: u8, p: Progress, c: Counters, v: u8) -> Trial
+    ensures verdict { λ r. ⌜ r .verdict ≡ level.judgeLevel n low (p .at) d v ⌝ }
+    ensures progress { λ r. ⌜ r .progress ≡ level.progressAfter (level.judgeLevel n low (p .at) d v) p ⌝ }
+    ensures counters { λ r. ⌜ r .counters ≡ level.countersAfter (level.judgeLevel n low (p .at) d v) c ⌝ }
+{
+    let w = judge_level(n, low, p.at, d, v);
+    advance(w, p, c)
 }
 
 // A slot of an attempt that is answered: h and d are what its sample is for the line, and what it delivers.
-pub fn awaited(e: Effort, h: Hearing, d: Delivery) -> Trial
+pub fn awaited(p: Progress, c: Counters, h: Hearing, d: Delivery) -> Trial
     ensures verdict { λ r. ⌜ r .verdict ≡ service_rule.answeredAs h d ⌝ }
-    ensures effort { λ r. ⌜ r .effort ≡ rule.advance (service_rule.answeredAs h d) e ⌝ }
+    ensures progress { λ r. ⌜ r .progress ≡ level.progressAfter (service_rule.answeredAs h d) p ⌝ }
+    ensures counters { λ r. ⌜ r .counters ≡ level.countersAfter (service_rule.answeredAs h d) c ⌝ }
 {
     let heard = answered_as(h, d);
-    Trial {
-        verdict: heard,
-        effort: advance(heard, e),
-    }
+    advance(heard, p, c)
 }
 
 // ---- the end of the service

@@ -16,7 +16,8 @@ use Rattle.rules.specs.Definitions.Slots.{sampleOf}
 use Rattle.rules.specs.Definitions.Run.{next}
 use Rattle.rules.specs.Statements.Observer.{accepted}
 use Rattle.rules.specs.Statements.OwnFrames.{statusAt}
-use Rattle.rules.specs.Statements.Receiving.{Log, logNext, received, taker, role, hears, receives}
+use Rattle.rules.specs.Definitions.Service.{receives}
+use Rattle.rules.specs.Statements.Receiving.{Log, logNext, received, taker, role, hears}
 use Rattle.rules.specs.declared.Hearing.the-variants.{Fault, Good}
 use Rattle.rules.specs.declared.Role.the-variants.{Receiver}
 use Rattle.rules.specs.declared.Controller.{Controller}

@@ -6,8 +6,8 @@ use mathlib.Core.Path.{_≡_, refl, sym, _∙_, ap}
 use Rattle.line.proofs.Laws.{pick-same}
 use Rattle.rules.specs.Definitions.Registers.{both}
 use Rattle.rules.specs.Definitions.Delivery.{deliveryOf, deliveryTo, memoryDelivered, reportHeard, reportDelivered}
-use Rattle.rules.specs.Definitions.Service.{endingOf, settled, memoryEnded, reportJudged, reportEnded, fulfils, memoryReplied, reportReplied, hearOwn}
-use Rattle.rules.specs.Definitions.Slots.{roleIn, verdict, replyVerdict, heardAs, heard, delivers, serviceJudged, ending, memoryJudged, reportAfter}
+use Rattle.rules.specs.Definitions.Service.{endingOf, settled, memoryEnded, reportJudged, reportEnded, fulfils, memoryReplied, reportReplied, hearOwn, receives}
+use Rattle.rules.specs.Definitions.Slots.{roleIn, verdictAs, verdict, replyVerdict, replyAfter, heardAs, heard, delivers, serviceJudged, ending, memoryJudged, reportAfter}
 use Rattle.rules.specs.declared.Role.{Role}
 use Rattle.rules.specs.declared.Role.the-variants.{Nobody, Receiver, Sender, Asker, Replier}
 use Rattle.rules.specs.declared.Hearing.{Hearing}
@@ -22,6 +22,8 @@ use Rattle.rules.specs.declared.Report.{Report}
 use Rattle.rules.specs.declared.Service.{Service}
 use Rattle.rules.specs.declared.Core.{Core}
 use Rattle.rules.proofs.Logic.{both-true}
+use Rattle.judging.specs.Judged as judged
+use Rattle.judging.specs.Judged.{hears, tried}
 use Rattle.judging.specs.Ordinary.{passes, unmarked, goes, ordinary, Marks}
 
 going : (x : Ending) → goes x ≡ true → x ≡ Going
@@ -123,3 +125,38 @@ module _ (k : Core) (w q : Verdict) (h : Hearing) (s : Service) (x : Ending) (co
   pub service-kept : s ≡ settled (ending k w h) (serviceJudged w (k .service))
   unfolding settled
   service-kept = rw on counted
+
+-- ---- what a sample is, from the parts of the state
+
+module _ (k : Core) (v : ℕ) where
+  pub tried-is : (x : Role) → tried x (k .service .effort) (hears x (k .reception) (k .line) v) (k .reception) v ≡ verdictAs x k v
+  unfolding tried hears receives verdictAs
+  tried-is Nobody = refl
+  tried-is Receiver = refl
+  tried-is Sender = refl
+  tried-is Asker = refl
+  tried-is Replier = refl
+
+  pub reply-is : (x : Role) → judged.replyVerdict x (k .reply) v ≡ replyVerdict x k v
+  unfolding judged.replyVerdict replyVerdict
+  reply-is Nobody = refl
+  reply-is Receiver = refl
+  reply-is Sender = refl
+  reply-is Asker = refl
+  reply-is Replier = refl
+
+  pub heard-is : (x : Role) (w : Verdict) → judged.heard x (hears x (k .reception) (k .line) v) w (judged.replyVerdict x (k .reply) v) ≡ heardAs x k w v
+  unfolding judged.heard hears receives judged.replyVerdict heardAs
+  heard-is Nobody w = refl
+  heard-is Receiver w = refl
+  heard-is Sender w = refl
+  heard-is Asker w = refl
+  heard-is Replier w = refl
+
+pub reply-after-is : (x : Role) (m : List ℕ) (k : Core) (q : Verdict) (r : Reception) → judged.replyAfter x m (k .reply) q r ≡ replyAfter x m k q r
+unfolding judged.replyAfter replyAfter
+reply-after-is Nobody m k q r = refl
+reply-after-is Receiver m k q r = refl
+reply-after-is Sender m k q r = refl
+reply-after-is Asker m k q r = refl
+reply-after-is Replier m k q r = refl

@@ -1,1 +1,2 @@
 pub mod Ordinary
+pub mod Judged

@@ -9,27 +9,33 @@ ghost use Prim.Native.Nat.{_<_};
 ghost use Rattle.line.specs.Frame as frame;
 ghost use Rattle.rules.specs.Definitions.Longest as longest;
 ghost use Rattle.attempt.specs.Following as behind;
+ghost use Rattle.attempt.specs.Level as level;
+ghost use Rattle.rules.specs.declared.Verdict.the-variants as verdicts;
 ghost use Rattle.judging.specs.Ordinary as ordinary;
+ghost use Rattle.judging.specs.Judged as judged;
 use attempt::Trial;
 use rules::Choice;
 use rules::Core;
+use rules::Counters;
 use rules::Delivery;
 use rules::Effort;
 use rules::Ending;
 use rules::Hearing;
 use rules::ImmediateReply;
 use rules::Line;
+use rules::Progress;
 use rules::Reception;
 use rules::Report;
 use rules::Role;
 use rules::Service;
 use rules::Verdict;
 
-// What the model is in the frame under way, and what a sample is: for the attempt, for the effort, which has it counted, and for the line.
+// What the model is in the frame under way, and what a sample is: for the attempt, whose place and counts have it taken, for the line and for the reply.
 struct Judgement {
     role: Role,
     verdict: Verdict,
-    effort: Effort,
+    progress: Progress,
+    counters: Counters,
     hearing: Hearing,
     reply: Verdict,
 }
@@ -291,11 +297,10 @@ fn replied(q: Verdict, y: ImmediateReply) -> ImmediateReply
 }
 
 // After a sample: taken in the R/W slot of another module's frame; q is what the sample is for the reply, r the frame after it.
-fn reply_after(x: Role, m: &[u8; 256], k: Core, q: Verdict, r: Reception) -> ImmediateReply
-    requires { ⌜ behind.following q (k .reply .at) < 65536 ⌝ }
-    ensures { λ y. ⌜ y ≡ rule.replyAfter x (now (m .entry)) k q r ⌝ }
+fn reply_after(x: Role, m: &[u8; 256], y: ImmediateReply, q: Verdict, r: Reception) -> ImmediateReply
+    requires { ⌜ behind.following q (y .at) < 65536 ⌝ }
+    ensures { λ t. ⌜ t ≡ judged.replyAfter x (now (m .entry)) y q r ⌝ }
 {
-    let y = k.reply;
     match x {
         Role::Nobody => y,
         Role::Receiver => {
@@ -312,37 +317,47 @@ fn reply_after(x: Role, m: &[u8; 256], k: Core, q: Verdict, r: Reception) -> Imm
 
 // ---- the sample
 
-// A frame of another module.
-fn receives(k: Core, v: u8) -> Hearing
-    ensures { λ r. ⌜ r ≡ hearing_rule.hearFrame (k .reception) (longest.longestOf k) v ⌝ }
+// For the line, but for a frame of the model's own.
+fn hears(x: Role, r: Reception, l: Line, v: u8) -> Hearing
+    ensures { λ h. ⌜ h ≡ judged.hears x r l v ⌝ }
 {
-    hearing::hear_frame(k.reception, line::LONGEST, v)
+    if place::receives(x) {
+        return hearing::hear_frame(r, line::LONGEST, v);
+    }
+    hearing::hear_quiet(l, v)
 }
 
-// For the attempt under way, and for the effort, which has it counted.
-fn trial(x: Role, k: Core, v: u8) -> Trial
-    ensures verdict { λ r. ⌜ r .verdict ≡ rule.verdictAs x k v ⌝ }
-    ensures effort { λ r. ⌜ r .effort ≡ sending.advance (rule.verdictAs x k v) (k .service .effort) ⌝ }
+// No attempt is under way.
+fn unjudged(p: Progress, c: Counters) -> Trial
+    ensures verdict { λ r. ⌜ r .verdict ≡ verdicts.Unjudged ⌝ }
+    ensures progress { λ r. ⌜ r .progress ≡ p ⌝ }
+    ensures counters { λ r. ⌜ r .counters ≡ c ⌝ }
 {
-    let e = k.service.effort;
+    Trial {
+        verdict: Verdict::Unjudged,
+        progress: p,
+        counters: c,
+    }
+}
+
+// For the attempt under way; h is what the sample is for another module's frame.
+fn trial(x: Role, e: Effort, h: Hearing, r: Reception, v: u8) -> Trial
+    ensures verdict { λ t. ⌜ t .verdict ≡ judged.tried x e h r v ⌝ }
+    ensures progress { λ t. ⌜ t .progress ≡ level.progressAfter (judged.tried x e h r v) (e .progress) ⌝ }
+    ensures counters { λ t. ⌜ t .counters ≡ level.countersAfter (judged.tried x e h r v) (e .counters) ⌝ }
+{
+    let p = e.progress;
+    let c = e.counters;
     match x {
-        Role::Nobody => Trial {
-            verdict: Verdict::Unjudged,
-            effort: e,
-        },
-        Role::Receiver => Trial {
-            verdict: Verdict::Unjudged,
-            effort: e,
-        },
-        Role::Sender => attempt::tried(e, v),
-        Role::Asker => {
-            let h = receives(k, v);
-            attempt::awaited(e, h, delivery::delivery_of(h, k.reception))
+        Role::Nobody => unjudged(p, c),
+        Role::Receiver => unjudged(p, c),
+        Role::Sender => {
+            let f = e.frame;
+            let d = driver::level_at(f, p.at);
+            attempt::tried(f.n, f.bytes[1], d, p, c, v)
         }
-        Role::Replier => Trial {
-            verdict: Verdict::Unjudged,
-            effort: e,
-        },
+        Role::Asker => attempt::awaited(p, c, h, delivery::delivery_of(h, r)),
+        Role::Replier => unjudged(p, c),
     }
 }
 
@@ -351,15 +366,16 @@ fn judge_reply(y: ImmediateReply, v: u8) -> Verdict
     ensures value { λ r. ⌜ r ≡ service_rule.judgeReply y v ⌝ }
     ensures room { λ r. ⌜ behind.following r (y .at) < 65536 ⌝ }
 {
-    attempt::judge_slot(y.frame, y.at, v)
+    let f = y.frame;
+    let d = driver::level_at(f, y.at);
+    attempt::judge_level(f.n, f.bytes[1], y.at, d, v)
 }
 
 // For the reply under way.
-fn reply_verdict(x: Role, k: Core, v: u8) -> Verdict
-    ensures value { λ r. ⌜ r ≡ rule.replyVerdict x k v ⌝ }
-    ensures room { λ r. ⌜ behind.following r (k .reply .at) < 65536 ⌝ }
+fn reply_verdict(x: Role, y: ImmediateReply, v: u8) -> Verdict
+    ensures value { λ r. ⌜ r ≡ judged.replyVerdict x y v ⌝ }
+    ensures room { λ r. ⌜ behind.following r (y .at) < 65536 ⌝ }
 {
-    let y = k.reply;
     match x {
         Role::Nobody => Verdict::Unjudged,
         Role::Receiver => Verdict::Unjudged,
@@ -369,16 +385,15 @@ fn reply_verdict(x: Role, k: Core, v: u8) -> Verdict
     }
 }
 
-// For the line; w is what it is for the attempt, q for the reply.
-fn heard(x: Role, k: Core, w: Verdict, q: Verdict, v: u8) -> Hearing
-    requires { ⌜ q ≡ rule.replyVerdict x k v ⌝ }
-    ensures { λ h. ⌜ h ≡ rule.heardAs x k w v ⌝ }
+// For the line: h is what the sample is but for a frame of the model's own, w what it is for the attempt, q for the reply.
+fn heard(x: Role, h: Hearing, w: Verdict, q: Verdict) -> Hearing
+    ensures { λ r. ⌜ r ≡ judged.heard x h w q ⌝ }
 {
     match x {
-        Role::Nobody => hearing::hear_quiet(k.line, v),
-        Role::Receiver => receives(k, v),
+        Role::Nobody => h,
+        Role::Receiver => h,
         Role::Sender => hear_own(w),
-        Role::Asker => receives(k, v),
+        Role::Asker => h,
         Role::Replier => hear_own(q),
     }
 }
@@ -389,21 +404,26 @@ fn judge(k: Core, v: u8) -> Judgement
     ensures verdict { λ r. ⌜ r .verdict ≡ rule.verdict k v ⌝ }
     ensures reply { λ r. ⌜ r .reply ≡ rule.replyVerdict (rule.roleIn k) k v ⌝ }
     ensures room { λ r. ⌜ behind.following (r .reply) (k .reply .at) < 65536 ⌝ }
-    ensures effort { λ r. ⌜ r .effort ≡ sending.advance (rule.verdict k v) (k .service .effort) ⌝ }
+    ensures progress { λ r. ⌜ r .progress ≡ level.progressAfter (rule.verdict k v) (k .service .effort .progress) ⌝ }
+    ensures counters { λ r. ⌜ r .counters ≡ level.countersAfter (rule.verdict k v) (k .service .effort .counters) ⌝ }
     ensures hearing { λ r. ⌜ r .hearing ≡ rule.heard k (rule.verdict k v) v ⌝ }
 {
     let e = k.service.effort;
     let here = k.reception;
-    let x = place::role_of(e.progress, k.reply.going, here.place);
-    let t = trial(x, k, v);
+    let y = k.reply;
+    let x = place::role_of(e.progress, y.going, here.place);
+    let h = hears(x, here, k.line, v);
+    let t = trial(x, e, h, here, v);
     let w = t.verdict;
-    let f = t.effort;
-    let q = reply_verdict(x, k, v);
+    let progress = t.progress;
+    let counters = t.counters;
+    let q = reply_verdict(x, y, v);
     Judgement {
         role: x,
         verdict: w,
-        effort: f,
-        hearing: heard(x, k, w, q, v),
+        progress,
+        counters,
+        hearing: heard(x, h, w, q),
         reply: q,
     }
 }
@@ -418,7 +438,11 @@ pub fn sample_judged(m: &mut [u8; 256], k: Core, v: u8) -> Core
     let w = j.verdict;
     let q = j.reply;
     let h = j.hearing;
-    let e = j.effort;
+    let progress = j.progress;
+    let counters = j.counters;
+    let mut e = k.service.effort;
+    e.progress = progress;
+    e.counters = counters;
     let mut s = k.service;
     s.effort = e;
     let y = take_effect(m, k, x, w, q, h, s);
@@ -430,6 +454,6 @@ pub fn sample_judged(m: &mut [u8; 256], k: Core, v: u8) -> Core
     t.line = line_after(h, k.line, v);
     let here = reception_judged(m, h, k.reception, v);
     t.reception = here;
-    t.reply = reply_after(x, m, k, q, here);
+    t.reply = reply_after(x, m, k.reply, q, here);
     t
 }

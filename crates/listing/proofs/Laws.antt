@@ -1,7 +1,7 @@
 -- Laws: numerals by their last digits, and how long they are; texts laid one behind another.
 use Prim.Native.Nat.{ℕ, zero, suc, _+_, _*_, _/_, _%_, _≤_, _<_}
 use mathlib.Core.Bool.{Bool, true, false}
-use mathlib.Core.List.{List, [], _∷_, _++_}
+use mathlib.Core.List.{List, [], _∷_, _++_, append-assoc}
 use mathlib.Core.Path.{_≡_, refl, ap, sym, _∙_}
 use native.Mathlib.Omega.{arith}
 use borrow.Author.Tests.{ltb-false, lt-ltb, le-ltb, le-leb}
@@ -11,7 +11,7 @@ use Rattle.line.proofs.Room.{sets-append}
 use Rattle.leb128.specs.Leb128.{pick}
 use Rattle.listing.specs.declared.Edge.{Edge}
 use Rattle.listing.specs.declared.Edge.the-variants.{Count, Bad, End}
-use Rattle.listing.specs.Laid.{Laid, words}
+use Rattle.listing.specs.Laid.{Laid, words, lastTwo}
 use Rattle.listing.specs.Listing.{digit, decimalIn, decimal, twoDigits, hexadecimalIn, hexadecimal, newline, eventsText, endText, badText, atText, eventsLine, endLine, badLine, edgeLine, longestLine, holds, lineRoom, linePlace}
 
 -- ---- decimal
@@ -37,6 +37,15 @@ pub decimal-more : (n : ℕ) → 10 ≤ n → decimal n ≡ decimal (n / 10) ++ 
 unfolding decimal decimalIn
 decimal-more zero h = absurd (omega arith)
 decimal-more (suc n) h = rw (le-ltb (suc n) 10 h, same-decimal n (suc n / 10) (suc n / 10) (omega arith) (omega arith))
+
+pub decimal-hundreds : (n : ℕ) → 100 ≤ n → decimal n ≡ decimal (n / 100) ++ lastTwo n
+unfolding lastTwo
+decimal-hundreds n h =
+    let e : n / 10 / 10 ≡ n / 100 = omega arith in
+    decimal-more n (omega arith)
+    ∙ ap (λ (l : List ℕ). l ++ ((48 + n % 10) ∷ [])) (decimal-more (n / 10) (omega arith))
+    ∙ append-assoc (decimal (n / 10 / 10)) ((48 + n / 10 % 10) ∷ []) ((48 + n % 10) ∷ [])
+    ∙ rw e
 
 abbrev tens : ℕ → ℕ
 tens zero = 10

@@ -2,14 +2,14 @@
 use Prim.Native.Nat.{ℕ, suc, _+_, _/_, _%_, _≤_, _<_}
 use mathlib.Core.Bool.{Bool, true, false}
 use borrow.Author.Tests.{leb-true, le-leb}
-use mathlib.Core.List.{List, [], _∷_, _++_, append-assoc}
+use mathlib.Core.List.{List, [], _∷_, _++_}
 use mathlib.Core.Path.{_≡_, refl, ap, sym, _∙_}
 use native.Mathlib.Numerals.{add-one}
 use native.Mathlib.Omega.{arith}
 use lib.ListN.{set, length}
 use Rattle.listing.specs.Listing.{digit, decimal, twoDigits, hexadecimal, holds, lineRoom, linePlace}
-use Rattle.listing.specs.Laid.{Laid}
-use Rattle.listing.proofs.Laws.{joined, decimal-one, decimal-more, decimal-long-18, hexadecimal-two, hexadecimal-more}
+use Rattle.listing.specs.Laid.{Laid, lastTwo}
+use Rattle.listing.proofs.Laws.{joined, decimal-one, decimal-more, decimal-hundreds, decimal-long-18, hexadecimal-two, hexadecimal-more}
 
 -- ---- bytes one by one
 
@@ -30,17 +30,13 @@ tens-units n g h = decimal-more n g ∙ rw (decimal-one (n / 10) (omega arith))
 pub tens : (room : List ℕ) (at n : ℕ) → 10 ≤ n → n < 100 → Laid room at (decimal n) (set (set room at (48 + n / 10)) (at + 1) (48 + n % 10)) (at + 2)
 tens room at n g h = rw (tens-units n g h) (two room at (48 + n / 10) (48 + n % 10))
 
-hundreds-units : (n : ℕ) → 100 ≤ n → decimal n ≡ decimal (n / 100) ++ ((48 + n / 10 % 10) ∷ (48 + n % 10) ∷ [])
-hundreds-units n h =
-    let e : n / 10 / 10 ≡ n / 100 = omega arith in
-    decimal-more n (omega arith)
-    ∙ ap (λ (l : List ℕ). l ++ ((48 + n % 10) ∷ [])) (decimal-more (n / 10) (omega arith))
-    ∙ append-assoc (decimal (n / 10 / 10)) ((48 + n / 10 % 10) ∷ []) ((48 + n % 10) ∷ [])
-    ∙ rw e
+pub last : (room : List ℕ) (at n : ℕ) → Laid room at (lastTwo n) (set (set room at (48 + n / 10 % 10)) (at + 1) (48 + n % 10)) (at + 2)
+unfolding lastTwo
+last room at n = two room at (48 + n / 10 % 10) (48 + n % 10)
 
-pub hundreds : {before after : List ℕ} {at p : ℕ} (n : ℕ) → 100 ≤ n → Laid before at (decimal (n / 100)) after p
-    → Laid before at (decimal n) (set (set after p (48 + n / 10 % 10)) (p + 1) (48 + n % 10)) (p + 2)
-hundreds {after = after} {p = p} n h l = rw (hundreds-units n h) (joined l (two after p (48 + n / 10 % 10) (48 + n % 10)))
+pub hundreds : {before between after : List ℕ} {at p q : ℕ} (n : ℕ) → 100 ≤ n → Laid before at (decimal (n / 100)) between p → Laid between p (lastTwo n) after q
+    → Laid before at (decimal n) after q
+hundreds n h k l = rw (decimal-hundreds n h) (joined k l)
 
 -- a number of at most twenty digits has at most eighteen before the last two
 pub hundreds-fit : {before after : List ℕ} {at p : ℕ} (n : ℕ) → n < 100000000000000000000 → Laid before at (decimal (n / 100)) after p → p + 2 ≤ at + 20

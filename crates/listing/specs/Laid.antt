@@ -1,7 +1,7 @@
 -- Texts in lent room, for the contracts of the functions that write them.
---   Laid == a text laid at a place of the room        words == a line around the events, without its line feed
-use Prim.Native.Nat.{ℕ, _+_}
-use mathlib.Core.List.{List, _++_}
+--   Laid == a text laid at a place of the room        words == a line around the events, without its line feed        lastTwo == the last two decimal digits
+use Prim.Native.Nat.{ℕ, _+_, _/_, _%_}
+use mathlib.Core.List.{List, [], _∷_, _++_}
 use mathlib.Core.Path.{_≡_}
 use lib.ListN.{length}
 use lib.Seq.{sets}
@@ -18,3 +18,7 @@ abbrev pub words : Edge → List ℕ
 words (Count count) = eventsText ++ decimal count
 words (Bad number place) = (badText ++ decimal number) ++ (atText ++ decimal place)
 words (End count) = endText ++ decimal count
+
+-- The last two digits of a decimal number: tens and units.
+unfoldable pub lastTwo : ℕ → List ℕ
+lastTwo n = (48 + n / 10 % 10) ∷ (48 + n % 10) ∷ []

@@ -1,10 +1,10 @@
 // The lines of a listing, written into lent room (01, Session and listing).
 ghost use mathlib.Core.Path.{_≡_};
 ghost use mathlib.Core.List.{_++_};
-ghost use Prim.Native.Nat.{_+_, _%_, _≤_};
+ghost use Prim.Native.Nat.{_+_, _%_, _≤_, _<_};
 ghost use lib.ListN.{length};
 ghost use Rattle.listing.specs.Listing as rule;
-ghost use Rattle.listing.specs.Laid.{Laid, words};
+ghost use Rattle.listing.specs.Laid.{Laid, words, lastTwo};
 use session::Event;
 
 // The lines around those of the events: their count before them; behind them a fault's number and its place, or the end.
@@ -32,25 +32,70 @@ fn put_text(room: &mut [u8], at: usize, text: &[u8]) -> usize
     at + k
 }
 
+// One digit.
+fn put_digit(room: &mut [u8], at: usize, n: usize) -> usize
+    requires { ⌜ n < 10 ⌝ }
+    requires room { ⌜ at + 1 ≤ length (now room) ⌝ }
+    ensures { λ r. ⌜ Laid (now (room .entry)) at (rule.decimal n) (now (room .exit)) r ⌝ }
+    ensures bound { λ r. ⌜ r ≡ at + 1 ⌝ }
+{
+    room[at] = 48 + n as u8;
+    at + 1
+}
+
+// One or two.
+fn put_pair(room: &mut [u8], at: usize, n: usize) -> usize
+    requires { ⌜ n < 100 ⌝ }
+    requires room { ⌜ at + 2 ≤ length (now room) ⌝ }
+    ensures { λ r. ⌜ Laid (now (room .entry)) at (rule.decimal n) (now (room .exit)) r ⌝ }
+    ensures bound { λ r. ⌜ r ≤ at + 2 ⌝ }
+{
+    if n < 10 {
+        return put_digit(room, at, n);
+    }
+    room[at] = 48 + (n / 10) as u8;
+    room[at + 1] = 48 + (n % 10) as u8; // units
+    at + 2
+}
+
+// The last two.
+fn put_last(room: &mut [u8], at: usize, n: usize) -> usize
+    requires { ⌜ at + 2 ≤ length (now room) ⌝ }
+    ensures { λ r. ⌜ Laid (now (room .entry)) at (lastTwo n) (now (room .exit)) r ⌝ }
+    ensures bound { λ r. ⌜ r ≡ at + 2 ⌝ }
+{
+    room[at] = 48 + (n / 10 % 10) as u8;
+    room[at + 1] = 48 + (n % 10) as u8;
+    at + 2
+}
+
 // Decimal: the last two digits behind those of the hundreds.
 fn put_decimal(room: &mut [u8], at: usize, n: usize) -> usize
     requires { ⌜ at + 20 ≤ length (now room) ⌝ }
     ensures { λ r. ⌜ Laid (now (room .entry)) at (rule.decimal n) (now (room .exit)) r ⌝ }
     ensures bound { λ r. ⌜ r ≤ at + 20 ⌝ }
 {
-    if n < 10 {
-        room[at] = 48 + n as u8;
-        return at + 1;
-    }
     if n < 100 {
-        room[at] = 48 + (n / 10) as u8;
-        room[at + 1] = 48 + (n % 10) as u8;
-        return at + 2;
+        return put_pair(room, at, n);
     }
     let p = put_decimal(room, at, n / 100);
-    room[p] = 48 + (n / 10 % 10) as u8;
-    room[p + 1] = 48 + (n % 10) as u8;
-    p + 2
+    put_last(room, p, n)
+}
+
+// The same, without a call of itself up to four digits.
+fn put_index(room: &mut [u8], at: usize, n: usize) -> usize
+    requires { ⌜ at + 20 ≤ length (now room) ⌝ }
+    ensures { λ r. ⌜ Laid (now (room .entry)) at (rule.decimal n) (now (room .exit)) r ⌝ }
+    ensures bound { λ r. ⌜ r ≤ at + 20 ⌝ }
+{
+    if n < 100 {
+        return put_pair(room, at, n);
+    }
+    if n < 10000 {
+        let p = put_pair(room, at, n / 100);
+        return put_last(room, p, n);
+    }
+    put_decimal(room, at, n)
 }
 
 // The last hexadecimal digit.
@@ -102,6 +147,9 @@ fn put_number(room: &mut [u8], at: usize, text: &[u8], n: usize) -> usize
     ensures bound { λ r. ⌜ r ≤ at + length (now (text .entry)) + 20 ⌝ }
 {
     let p = put_text(room, at, text);
+    if n < 10 {
+        return put_digit(room, p, n);
+    }
     put_decimal(room, p, n)
 }
 
@@ -238,7 +286,7 @@ pub fn put_line(room: &mut [u8], at: usize, index: u16, e: Event, refused: u8, v
     ensures bound { λ r. ⌜ r ≤ at + rule.longestLine ⌝ }
 {
     if holds(room.len(), at) {
-        let p = put_decimal(room, at, index as usize);
+        let p = put_index(room, at, index as usize);
         let q = put_event(room, p, e, refused, value);
         return put_newline(room, q);
     }

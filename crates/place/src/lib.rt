@@ -42,6 +42,19 @@ pub fn role_of(p: Progress, replies: bool, here: Place) -> Role
     Role::Nobody
 }
 
+// A frame of another module, the answer to the model's own request among them.
+pub fn receives(x: Role) -> bool
+    ensures { λ r. ⌜ r ≡ service_rule.receives x ⌝ }
+{
+    match x {
+        Role::Nobody => false,
+        Role::Receiver => true,
+        Role::Sender => false,
+        Role::Asker => true,
+        Role::Replier => false,
+    }
+}
+
 // Whether the place lies between identifier and end of data.
 fn in_body(p: Place) -> bool
     ensures { λ r. ⌜ r ≡ rule.inBody p ⌝ }

@@ -14,8 +14,12 @@ input-small levels input =
     picked (λ (x : ℕ). x < 2) (eqb input 1) (levels / 2 % 2) _ (λ e. omega arith)
     (λ e. picked (λ (x : ℕ). x < 2) (eqb input 2) (levels / 4 % 2) (levels % 2) (λ d. omega arith) (λ d. omega arith))
 
+pub sampled-small : (line diagnosis levels : ℕ) → sampled line diagnosis levels < 2
+unfolding sampled inverted
+sampled-small line diagnosis levels =
+    let i : ℕ = inputLevel levels (selectedInput diagnosis) in
+    picked (λ (x : ℕ). x < 2) (invertsReceive line) (1 - i % 2) i (λ e. omega arith) (λ e. input-small levels (selectedInput diagnosis))
+
 pub sample-small : (c : Controller) (levels : ℕ) → sampleOf c levels < 2
-unfolding sampleOf sampled inverted
-sample-small c levels =
-    let i : ℕ = inputLevel levels (selectedInput (getD (c .memory) diagnosisControl 0)) in
-    picked (λ (x : ℕ). x < 2) (invertsReceive (getD (c .memory) lineControl 0)) (1 - i % 2) i (λ e. omega arith) (λ e. input-small levels (selectedInput (getD (c .memory) diagnosisControl 0)))
+unfolding sampleOf
+sample-small c levels = sampled-small (getD (c .memory) lineControl 0) (getD (c .memory) diagnosisControl 0) levels

@@ -9,7 +9,7 @@ use Rattle.line.proofs.Laws.{pick-same}
 use Rattle.rules.specs.Definitions.Registers.{both, lineControl, transmitted}
 use Rattle.rules.specs.Definitions.Reception.{underWay, startEnded}
 use Rattle.rules.specs.Definitions.Attempt.{waits}
-use Rattle.rules.specs.Definitions.Service.{started, roleOf}
+use Rattle.rules.specs.Definitions.Service.{started, roleOf, receives}
 use Rattle.rules.specs.Definitions.State.{idleDue, isActive, serving}
 use Rattle.rules.specs.Definitions.Slots.{chooses, choiceMade, startMade, followsOn, drives, drivesAs}
 use Rattle.rules.specs.Definitions.Run.{accept, answered}
@@ -18,7 +18,7 @@ use Rattle.rules.specs.declared.Role.{Role}
 use Rattle.rules.specs.declared.Role.the-variants.{Nobody, Receiver, Sender, Asker, Replier}
 use Rattle.rules.specs.declared.Core.{Core}
 use Rattle.rules.proofs.Logic.{both-false}
-use Rattle.slots.specs.Follow.{begins, driven, drivenAs}
+use Rattle.slots.specs.Follow.{begins, ownLevel, driven, drivenAs}
 
 -- no idle waits, a frame is under way, and its start sequence has not just ended
 waits-not : (k : Core) → begins k ≡ false → k .activity .waiting ≡ false
@@ -61,7 +61,7 @@ unfolding followsOn
 nothing-follows m k e = rw (no-idle k e, no-choice m k e, no-start m k e)
 
 driven-as : (x : Role) (k : Core) → drivenAs x (k .service .effort .progress) (k .reception) (k .service .effort .frame) (k .reply) ≡ drivesAs x k
-unfolding drivenAs drivesAs
+unfolding drivenAs ownLevel receives drivesAs
 driven-as Nobody k = refl
 driven-as Receiver k = refl
 driven-as Sender k = refl

@@ -89,17 +89,27 @@ fn follows_on(m: &[u8; 256], k: Core) -> Core
 
 // ---- the level for the next slot
 
+// Of a frame of the model's own.
+fn own_level(x: Role, p: Progress, frame: Coded, y: ImmediateReply) -> u8
+    ensures { λ r. ⌜ r ≡ follow.ownLevel x p frame y ⌝ }
+{
+    match x {
+        Role::Nobody => 1,
+        Role::Receiver => 1,
+        Role::Sender => driver::level_at(frame, p.at),
+        Role::Asker => 1,
+        Role::Replier => driver::level_at(y.frame, y.at),
+    }
+}
+
 fn drives(p: Progress, here: Reception, frame: Coded, y: ImmediateReply) -> u8
     ensures { λ r. ⌜ r ≡ follow.driven p here frame y ⌝ }
 {
     let x = place::role_of(p, y.going, here.place);
-    match x {
-        Role::Nobody => 1,
-        Role::Receiver => hearing::receiver_level(here),
-        Role::Sender => driver::level_at(frame, p.at),
-        Role::Asker => hearing::receiver_level(here),
-        Role::Replier => driver::level_at(y.frame, y.at),
+    if place::receives(x) {
+        return hearing::receiver_level(here);
     }
+    own_level(x, p, frame, y)
 }
 
 // ---- the slot
@@ -115,7 +125,10 @@ fn active_slot(m: &mut [u8; 256], k: Core, levels: u16) -> Core
     ensures { λ r. ⌜ answers.controller (now (m .exit)) r ≡ rule.activeSlot (answers.controller (now (m .entry)) k) levels ⌝ }
 {
     let v = registers::sampled(m[Map::LINE_CONTROL], m[Map::DIAGNOSIS_CONTROL], levels);
-    sampled_slot(m, k, v)
+    if v == 0 {
+        return sampled_slot(m, k, 0);
+    }
+    sampled_slot(m, k, 1)
 }
 
 // TXD after the transmit inversion.

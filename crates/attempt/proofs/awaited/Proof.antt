@@ -6,5 +6,5 @@ pub awaited-spec : {M : Type 1} → statement M
 awaited-spec =
     tie.close (tie.spec
     (λ c κs. tt)
-    (λ c κs. let a = c .before .args in rw (c .answered-as .ensures) (awaited-room (a .e .progress .at) (a .h) (a .d)))
-    (λ c. (c .before .answered-as .ensures, rw (c .advance .ensures, c .before .answered-as .ensures))))
+    (λ c κs. let a = c .before .args in rw (c .answered-as .ensures) (awaited-room (a .p .at) (a .h) (a .d)))
+    (λ c. rw (c .before .answered-as .ensures) at (c .advance .ensures)))

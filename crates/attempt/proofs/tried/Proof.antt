@@ -7,5 +7,5 @@ pub tried-spec : {M : Type 1} → statement M
 tried-spec =
     tie.close (tie.spec
     (λ c κs. tt)
-    (λ c κs. let a = c .before .before .args in rw (c .judge-slot .ensures) (room (a .e .progress .at) (a .e .frame) (a .v) (search needs)))
-    (λ c. (c .before .judge-slot .ensures, rw (c .advance .ensures, c .before .judge-slot .ensures))))
+    (λ c κs. let a = c .before .args in rw (c .judge-level .ensures) (room (a .p .at) (a .n) (a .low) (a .d) (a .v) (search needs)))
+    (λ c. rw (c .before .judge-level .ensures) at (c .advance .ensures)))

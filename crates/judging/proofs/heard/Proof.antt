@@ -1,23 +1,21 @@
-use Rattle.rules.specs.Definitions.Slots.{heardAs, replyVerdict}
+use borrow.Author.Needs.{needs}
+use Rattle.judging.specs.Judged.{heard}
 use Rattle.judging.proofs.heard.Statement.{statement}
 use Rattle.judging.proofs.heard.Tie as tie
 
 pub heard-spec : {M : Type 1} → statement M
-unfolding heardAs replyVerdict
+unfolding heard
 heard-spec =
     tie.close (tie.spec
-    (λ c. c .match .keys1)
-    (λ c κs. tt)
-    (λ c. c .match .keys2)
-    (λ c κs. tt)
-    (λ c. c .match .keys3)
-    (λ c κs. tt)
-    (λ c. c .match .keys4)
-    (λ c κs. tt)
-    (λ c. c .match .keys5)
-    (λ c κs. tt)
-    (λ c. simp (← (c .hear-quiet .ensures), c .before .enum-told .given .1))
-    (λ c. simp (← (c .receives .ensures), c .before .enum-told2 .given .1))
-    (λ c. simp (← (c .hear-own .ensures), c .before .enum-told3 .given .1))
-    (λ c. simp (← (c .receives2 .ensures), c .before .enum-told4 .given .1))
-    (λ c. let q = rw (c .before .enum-told5 .given .1) at (c .before .before .before .pre) in rw (c .hear-own2 .ensures, c .before .enum-told5 .given .1, q)))
+    (λ c. search needs)
+    (λ c. search needs)
+    (λ c. search needs)
+    (λ c κs. search needs)
+    (λ c. search needs)
+    (λ c. search needs)
+    (λ c κs. search needs)
+    (λ c. simp (c .before .match .keys1, c .enum-told .given .1))
+    (λ c. simp (c .before .match .keys2, c .enum-told2 .given .1))
+    (λ c. simp (c .before .before .match .keys3, ← (c .hear-own .ensures), c .before .enum-told3 .given .1))
+    (λ c. simp (c .before .match .keys4, c .enum-told4 .given .1))
+    (λ c. simp (c .before .before .match .keys5, ← (c .hear-own2 .ensures), c .before .enum-told5 .given .1)))

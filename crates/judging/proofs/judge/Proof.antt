@@ -1,4 +1,6 @@
+use mathlib.Core.Path.{_∙_}
 use Rattle.rules.specs.Definitions.Slots.{heard, verdict}
+use Rattle.judging.proofs.Ways.{tried-is, reply-is, heard-is}
 use Rattle.judging.proofs.judge.Statement.{statement}
 use Rattle.judging.proofs.judge.Tie as tie
 
@@ -9,11 +11,15 @@ judge-spec =
     (λ c κs. tt)
     (λ c κs. tt)
     (λ c κs. tt)
-    (λ c κs. c .reply-verdict .ensures .0)
+    (λ c κs. tt)
+    (λ c κs. tt)
     (λ c.
-    let x = c .before .before .before .before .role-of .ensures in
-    let t = c .before .before .before .trial .ensures in
-    let q = c .before .reply-verdict .ensures in (
+    let a = c .before .before .before .before .before .before .before .before .before .before .args in
+    let x = c .before .before .before .before .before .before .role-of .ensures in
+    let h = c .before .before .before .before .before .hears .ensures in
+    let t = rw (h, x) at (c .before .before .before .before .trial .ensures) in
+    let q = rw x at (c .before .reply-verdict .ensures) in
+    let w = tried-is (a .k) (a .v) _ in (
       x,
-      (rw (t .0, x), (rw (q .0, x), (q .1, (rw (t .1, x), rw (c .heard .ensures, t .0, x))))),
+      (t .0 ∙ w, (q .0 ∙ reply-is (a .k) (a .v) _, (q .1, (rw w at (t .1 .0), (rw w at (t .1 .1), rw (c .heard .ensures, h, x, t .0, w, q .0) (heard-is (a .k) (a .v) _ _)))))),
     )))

@@ -1,4 +1,5 @@
-use Rattle.rules.specs.Definitions.Slots.{replyAfter}
+use borrow.Author.Needs.{needs}
+use Rattle.judging.specs.Judged.{replyAfter}
 use Rattle.judging.proofs.reply_after.Statement.{statement}
 use Rattle.judging.proofs.reply_after.Tie as tie
 
@@ -6,17 +7,17 @@ pub reply-after-spec : {M : Type 1} → statement M
 unfolding replyAfter
 reply-after-spec =
     tie.close (tie.spec
-    (λ c. c .match .keys1)
-    (λ c. c .match .keys2)
-    (λ c κs. tt)
-    (λ c κs. tt)
-    (λ c. simp (c .before .if1 .taken, ← (c .reply-taken .ensures), ← (c .before .before .reads-asked .ensures), c .before .before .before .enum-told2 .given .1))
-    (λ c. c .match .keys3)
-    (λ c. c .match .keys4)
-    (λ c. c .match .keys5)
-    (λ c κs. c .before .before .before .pre)
-    (λ c. simp (c .enum-told .given .1))
-    (λ c. simp (c .if1 .left, ← (c .before .reads-asked .ensures), c .before .before .enum-told2 .given .1))
-    (λ c. simp (c .enum-told3 .given .1))
-    (λ c. simp (c .enum-told4 .given .1))
-    (λ c. simp (← (c .replied .ensures), c .before .enum-told5 .given .1)))
+    (λ c. search needs)
+    (λ c. search needs)
+    (λ c κs. search needs)
+    (λ c κs. search needs)
+    (λ c. simp (c .before .if1 .taken, c .before .before .before .before .match .keys2, ← (c .reply-taken .ensures), ← (c .before .before .reads-asked .ensures), c .before .before .before .enum-told2 .given .1))
+    (λ c. search needs)
+    (λ c. search needs)
+    (λ c. search needs)
+    (λ c κs. c .before .before .pre)
+    (λ c. simp (c .before .match .keys1, c .enum-told .given .1))
+    (λ c. simp (c .if1 .left, c .before .before .before .match .keys2, ← (c .before .reads-asked .ensures), c .before .before .enum-told2 .given .1))
+    (λ c. simp (c .before .match .keys3, c .enum-told3 .given .1))
+    (λ c. simp (c .before .match .keys4, c .enum-told4 .given .1))
+    (λ c. simp (c .before .before .match .keys5, ← (c .replied .ensures), c .before .enum-told5 .given .1)))

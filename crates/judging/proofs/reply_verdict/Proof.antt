@@ -1,6 +1,7 @@
+use borrow.Author.Needs.{needs}
 use native.Mathlib.Omega.{arith}
 use Rattle.attempt.specs.Following.{following}
-use Rattle.rules.specs.Definitions.Slots.{replyVerdict}
+use Rattle.judging.specs.Judged.{replyVerdict}
 use Rattle.judging.proofs.reply_verdict.Statement.{statement}
 use Rattle.judging.proofs.reply_verdict.Tie as tie
 
@@ -8,12 +9,12 @@ pub reply-verdict-spec : {M : Type 1} → statement M
 unfolding replyVerdict following
 reply-verdict-spec =
     tie.close (tie.spec
-    (λ c. c .match .keys1)
-    (λ c. c .match .keys2)
-    (λ c. c .match .keys3)
-    (λ c. c .match .keys4)
-    (λ c. c .match .keys5)
-    (λ c κs. tt)
+    (λ c. search needs)
+    (λ c. search needs)
+    (λ c. search needs)
+    (λ c. search needs)
+    (λ c. search needs)
+    (λ c κs. search needs)
     (λ c. (simp (c .enum-told .given .1), omega arith))
     (λ c. (simp (c .enum-told2 .given .1), omega arith))
     (λ c. (simp (c .enum-told3 .given .1), omega arith))

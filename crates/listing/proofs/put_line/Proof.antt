@@ -15,5 +15,5 @@ put-line-spec =
     (λ c κs. let h = fits _ (c .before .before .before .before .before .before .before .before .args .at) _ (c .before .before .before .before .before .before .holds .ensures) (c .before .before .before .before .before .if1 .taken) in omega arith)
     (λ c κs. let h = fits _ (c .before .before .before .before .before .before .before .before .before .before .before .before .args .at) _ (c .before .before .before .before .before .before .before .before .before .before .holds .ensures) (c .before .before .before .before .before .before .before .before .before .if1 .taken) in omega arith)
     (λ c. search needs)
-    (λ c. let h = held (fits _ (c .before .before .before .before .before .before .before .before .before .before .before .before .before .before .before .args .at) _ (c .before .before .before .before .before .before .before .before .before .before .before .before .before .holds .ensures) (c .before .before .before .before .before .before .before .before .before .before .before .before .if1 .taken)) (joined (joined (c .before .before .before .before .before .before .before .before .before .before .put-decimal .ensures .0) (c .before .before .before .before .before .before .put-event .ensures .0)) (c .before .before .put-newline .ensures .0)) in (h .0, (h .1, omega arith)))
+    (λ c. let h = held (fits _ (c .before .before .before .before .before .before .before .before .before .before .before .before .before .before .before .args .at) _ (c .before .before .before .before .before .before .before .before .before .before .before .before .before .holds .ensures) (c .before .before .before .before .before .before .before .before .before .before .before .before .if1 .taken)) (joined (joined (c .before .before .before .before .before .before .before .before .before .before .put-index .ensures .0) (c .before .before .before .before .before .before .put-event .ensures .0)) (c .before .before .put-newline .ensures .0)) in (h .0, (h .1, omega arith)))
     (λ c. let h = short _ _ (c .before .before .before .args .at) _ (c .before .holds .ensures) (c .if1 .left) in (h .0, (h .1, omega arith))))

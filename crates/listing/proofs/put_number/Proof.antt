@@ -10,4 +10,7 @@ put-number-spec =
     (λ c κs. omega arith)
     (λ c κs. omega arith)
     (λ c. search needs)
-    (λ c. (joined (c .before .before .before .before .before .before .put-text .ensures .0) (c .before .before .put-decimal .ensures .0), omega arith)))
+    (λ c. (joined (c .before .before .before .before .before .before .before .put-text .ensures .0) (c .before .before .put-digit .ensures .0), omega arith))
+    (λ c κs. omega arith)
+    (λ c. search needs)
+    (λ c. (joined (c .before .before .before .before .before .before .before .put-text .ensures .0) (c .before .before .put-decimal .ensures .0), omega arith)))

@@ -23,7 +23,7 @@ use Rattle.rules.proofs.Receiving.InvariantFrames.{start-long, acknowle
 use Rattle.rules.proofs.Receiving.InvariantLaws.{invariant-silent, invariant-header, invariant-good, invariant-last, invariant-fault, invariant-acknowledges}
 use Rattle.rules.specs.Definitions.Delivery.{deliveryTo, delivered, deliveryOf, memoryStored, memoryDelivered, reportHeard, reportDelivered, reportStored, receiveError}
 use Rattle.rules.specs.Definitions.Attempt.{drivesFrame, advance, isAnswered}
-use Rattle.rules.specs.Definitions.Service.{stopped, endingOf, memoryEnded, reportJudged, reportEnded, reportSending, choose, goodFor, answeredAs, fulfils, memoryReplied, reportReplied}
+use Rattle.rules.specs.Definitions.Service.{stopped, endingOf, memoryEnded, reportJudged, reportEnded, reportSending, choose, goodFor, answeredAs, fulfils, memoryReplied, reportReplied, receives}
 use Rattle.rules.specs.Definitions.State.{isActive, inMode, serving, resetCore, idled, idleDue}
 use Rattle.rules.specs.Definitions.Longest.{longestOf}
 use Rattle.rules.specs.Definitions.Registers.{BOV, CV}
@@ -41,7 +41,7 @@ use Rattle.rules.proofs.Ranges.Limits.{Fine}
 use Rattle.rules.proofs.Ranges.Reach.{fine-fresh, fine-next}
 use Rattle.rules.proofs.Sending.Bound.{good-none}
 use Rattle.rules.proofs.Sending.Demand3.{Joined, joined-next, joined-fresh}
-use Rattle.rules.specs.Statements.Receiving.{Log, noLog, storedFrame, received, errorAfter, logNext, taker, hears, Taken, Delivers, role, Heeds, DeliversIn, Owing, Acknowledges, ReceivingOver, receives, untaken}
+use Rattle.rules.specs.Statements.Receiving.{Log, noLog, storedFrame, received, errorAfter, logNext, taker, hears, Taken, Delivers, role, Heeds, DeliversIn, Owing, Acknowledges, ReceivingOver, untaken}
 use Rattle.rules.specs.Statements.Interrupts.{ownFrame}
 use Rattle.rules.proofs.Roles as roles
 use Rattle.rules.proofs.Roles.{RoleIs, sends, asks, rests, role-is}

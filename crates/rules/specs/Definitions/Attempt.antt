@@ -172,7 +172,7 @@ difference n k d = differenceIn (partOf n k) (both (eqb d 1) (openHalf (halfOf n
 unfoldable pub isRequest : Coded → Bool
 isRequest x = asksReply (getD (x .bytes) 1 0)
 
--- RTR's first half, slot 29 of a frame
+-- RTR's first half, counted from 0
 abbrev pub rtrSlot : ℕ
 rtrSlot = 28
 

@@ -1,5 +1,5 @@
 -- The sending service: choice, start, abort, REAR, end; requests and immediate replies (01, Sending; 02, Req 01; 000, Retries, Rearbitrate and Abort).
---   roleOf == what the model is in the frame under way        stopped, endingOf, settled == the end of a service
+--   roleOf, receives == what the model is in the frame under way        stopped, endingOf, settled == the end of a service
 --   memoryEnded, reportJudged, reportEnded == memory map and registers        chosen, choose, started == choice and start
 --   answeredAs == what an answer is for its request        fulfils == a stored reply ends a waiting request
 --   judgeReply, replied, memoryReplied, reportReplied, replyTaken == an immediate reply
@@ -41,6 +41,14 @@ use Rattle.rules.specs.declared.Role.the-variants.{Nobody, Receiver, Sen
 -- sender from its first driven slot on; asker once its request is answered; replier; receiver of any other frame under way
 unfoldable pub roleOf : Progress → Bool → Place → Role
 roleOf p replies here = pick (drivesFrame p) Sender (pick (isAnswered p) Asker (pick replies Replier (pick (underWay here) Receiver Nobody)))
+
+-- another module's frame, the answer to the model's own request among them (02, Req 01)
+unfoldable pub receives : Role → Bool
+receives Nobody = false
+receives Receiver = true
+receives Sender = false
+receives Asker = true
+receives Replier = false
 
 unfoldable pub resting : Service
 resting =

@@ -17,6 +17,7 @@ use Rattle.rules.specs.Definitions.Channels.{winnerFor}
 use Rattle.rules.specs.Definitions.Mailbox.{statusByte, laidFrom, retagged, markedCher, markedChrx}
 use Rattle.rules.specs.Definitions.Reception.{takesStart, underWay}
 use Rattle.rules.specs.Statements.Valid.{high, low, owes, Valid}
+use Rattle.rules.specs.Definitions.Service.{receives}
 use Rattle.rules.specs.Definitions.State.{isActive}
 use Rattle.rules.specs.Definitions.Slots.{roleIn, heard, verdict, drives, sampleOf}
 use Rattle.rules.specs.Definitions.Run.{next}
@@ -81,14 +82,6 @@ taker l f = winnerFor (l .held) (high f) (low f)
 
 abbrev pub role : Controller → Role
 role c = roleIn (c .core)
-
--- a frame of another module, the answer to the model's own request among them (02, Req 01)
-unfoldable pub receives : Role → Bool
-receives Nobody = false
-receives Receiver = true
-receives Sender = false
-receives Asker = true
-receives Replier = false
 
 -- a good frame that no channel takes leaves 0x07; an answer "where none takes it" is CV (02, Req 01)
 unfoldable pub untaken : Role → ℕ → ℕ
