@@ -297,7 +297,13 @@ fn replied(q: Verdict, y: ImmediateReply) -> ImmediateReply
 }
 
 // After a sample: taken in the R/W slot of another module's frame; q is what the sample is for the reply, r the frame after it.
-fn reply_after(x: Role, m: &[u8; 256], y: ImmediateReply, q: Verdict, r: Reception) -> ImmediateReply
+fn reply_after(
+    x: Role,
+    m: &[u8; 256],
+    y: ImmediateReply,
+    q: Verdict,
+    r: Reception,
+) -> ImmediateReply
     requires { ⌜ behind.following q (y .at) < 65536 ⌝ }
     ensures { λ t. ⌜ t ≡ judged.replyAfter x (now (m .entry)) y q r ⌝ }
 {

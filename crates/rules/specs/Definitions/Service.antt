@@ -139,7 +139,8 @@ answeredAs Follows d = Answered
 answeredAs (Fault code) d = Failed code
 answeredAs Good d = goodFor d
 
--- "a service waiting to send it ends in the slot where its channel stores that reply, without TE (house)": a frame with R/W 1 and RTR 0
+-- "a service waiting to send it ends in the slot where its channel stores that reply, without TE (house)": a frame with R/W 1 and RTR 0. Where a first level
+-- is answered and not yet sampled the model is the sender, and no frame is delivered
 unfoldable pub fulfils : Delivery → Reception → Service → Bool
 fulfils delivery.Nothing r s = false
 fulfils delivery.Stored r s =
