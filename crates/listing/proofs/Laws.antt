@@ -12,7 +12,7 @@ use Rattle.leb128.specs.Leb128.{pick}
 use Rattle.listing.specs.declared.Edge.{Edge}
 use Rattle.listing.specs.declared.Edge.the-variants.{Count, Bad, End}
 use Rattle.listing.specs.Laid.{Laid, words, lastTwo}
-use Rattle.listing.specs.Listing.{digit, decimalIn, decimal, twoDigits, hexadecimalIn, hexadecimal, newline, eventsText, endText, badText, atText, eventsLine, endLine, badLine, edgeLine, longestLine, holds, lineRoom, linePlace}
+use Rattle.listing.specs.Listing.{digit, decimalIn, decimal, twoDigits, hexadecimalIn, hexadecimal, newline, eventsLine, endLine, badLine, edgeLine, longestLine, holds, lineRoom, linePlace}
 
 -- ---- decimal
 

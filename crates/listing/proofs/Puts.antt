@@ -1,5 +1,5 @@
 -- What the writers of texts and numerals leave in the room.
-use Prim.Native.Nat.{ℕ, suc, _+_, _/_, _%_, _≤_, _<_}
+use Prim.Native.Nat.{ℕ, _+_, _/_, _%_, _≤_, _<_}
 use mathlib.Core.Bool.{Bool, true, false}
 use borrow.Author.Tests.{leb-true, le-leb}
 use mathlib.Core.List.{List, [], _∷_, _++_}

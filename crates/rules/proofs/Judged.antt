@@ -1,8 +1,8 @@
 -- What a sample may be for an attempt.
 --   Judged == in slot k of the fixed frame        Tried == for an effort, with no attempt too
-use Prim.Native.Nat.{ℕ, _+_, _-_, _*_, _%_, _≤_, _<_}
+use Prim.Native.Nat.{ℕ, _+_, _-_, _*_, _≤_, _<_}
 use mathlib.Core.Bool.{Bool, true, false, false≢true}
-use mathlib.Core.Path.{_≡_, refl}
+use mathlib.Core.Path.{_≡_}
 use native.Mathlib.Omega.{arith}
 use borrow.Author.Tests.{ltb-true, ltb-false, eqb-true, eqb-false}
 use lib.Dec.{eqb, ltb}
@@ -14,7 +14,7 @@ use Rattle.line.specs.declared.Part.the-variants.{Start, Identifier, Command, D
 use Rattle.line.specs.declared.Half.{Half}
 use Rattle.line.specs.declared.Half.the-variants.{Plain, First, Second}
 use Rattle.rules.specs.Definitions.Registers.{both, CV, ACKE, FCSE}
-use Rattle.rules.specs.Definitions.Attempt.{drivesFrame, rtrSlot, isRequest, levelAt, due, openHalf, arbitrated, inCheck, inAcknowledge, differenceIn, difference, judgeSlot}
+use Rattle.rules.specs.Definitions.Attempt.{rtrSlot, isRequest, levelAt, due, openHalf, arbitrated, inCheck, inAcknowledge, differenceIn, difference, judgeSlot}
 use Rattle.rules.proofs.Logic.{both-true}
 use Rattle.rules.specs.declared.Coded.{Coded}
 use Rattle.rules.specs.declared.Effort.{Effort}

@@ -1,20 +1,18 @@
 -- What the model is in the frame under way, from its attempt and the frame; and what a sample then is.
 use Prim.Native.Nat.{ℕ}
-use mathlib.Core.Bool.{Bool, true, false, false≢true}
-use mathlib.Core.Path.{_≡_, refl, ap, sym}
+use mathlib.Core.Bool.{Bool, true, false}
+use mathlib.Core.Path.{_≡_}
 use Rattle.line.specs.Bits.{pick}
 use Rattle.line.proofs.Laws.{picked}
 use Rattle.rules.specs.Definitions.Reception.{underWay}
 use Rattle.rules.specs.Definitions.Hearing.{hearFrame, hearQuiet}
-use Rattle.rules.specs.Definitions.Attempt.{drivesFrame, isAnswered, judgeSlot}
+use Rattle.rules.specs.Definitions.Attempt.{drivesFrame, isAnswered}
 use Rattle.rules.specs.Definitions.Service.{roleOf, judgeReply, hearOwn}
 use Rattle.rules.specs.Definitions.Longest.{longestOf}
 use Rattle.rules.specs.Definitions.Slots.{heardAs, heard}
 use Rattle.rules.specs.declared.Place.{Place}
 use Rattle.rules.specs.declared.Progress.{Progress}
-use Rattle.rules.specs.declared.Effort.{Effort}
 use Rattle.rules.specs.declared.Verdict.{Verdict}
-use Rattle.rules.specs.declared.Verdict.the-variants.{Unjudged}
 use Rattle.rules.specs.declared.Role.{Role}
 use Rattle.rules.specs.declared.Role.the-variants.{Nobody, Receiver, Sender, Asker, Replier}
 use Rattle.rules.specs.declared.Core.{Core}

@@ -6,7 +6,7 @@ use mathlib.Core.Path.{_≡_, refl, sym}
 use lib.ListN.{getD}
 use Rattle.line.specs.Bits.{pick}
 use Rattle.line.proofs.Laws.{pick-same}
-use Rattle.rules.specs.Definitions.Registers.{both, lineControl, transmitted}
+use Rattle.rules.specs.Definitions.Registers.{lineControl, transmitted}
 use Rattle.rules.specs.Definitions.Reception.{underWay, startEnded}
 use Rattle.rules.specs.Definitions.Attempt.{waits}
 use Rattle.rules.specs.Definitions.Service.{started, roleOf, receives}

@@ -1,4 +1,3 @@
-use borrow.Author.Needs.{needs}
 use mathlib.Core.Path.{refl}
 use Rattle.rules.specs.Definitions.Mailbox.{asksReply}
 use Rattle.attempt.proofs.asks_reply.Statement.{statement}

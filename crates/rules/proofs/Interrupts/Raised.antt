@@ -1,5 +1,5 @@
 -- Interrupts.antt, the six bits: the flags after every event, and what turns one of them to 1.
---   endedFlags, deliveredFlags, repliedFlags == the flags after the end of a service, after a delivery, and after a slot of the reply        interrupts == the claim, entire
+--   slot-rst, .. == each bit after a slot        interrupts == the claim, entire
 use Prim.Native.Nat.{ℕ, _+_, _/_, _%_, _≤_}
 use mathlib.Core.Bool.{Bool, true, false, not, false≢true}
 use mathlib.Core.List.{List}
@@ -10,18 +10,18 @@ use lib.Dec.{eqb, ltb}
 use lib.ListN.{getD}
 use Rattle.line.specs.Bits.{pick}
 use Rattle.line.proofs.Laws.{pick-same}
-use Rattle.rules.specs.Definitions.Setters.{withTe, withTok, withRe, withRok, withRnok, withActivity, withReport, withLine, withService}
+use Rattle.rules.specs.Definitions.Setters.{withActivity, withReport, withLine, withService}
 use Rattle.rules.specs.Definitions.Longest.{longestOf}
 use Rattle.rules.specs.Definitions.Registers.{both, hasBit, command, interruptEnable, interruptReset, asksReset, asksIdle, asksActivation, cleared, resetReport}
 use Rattle.rules.specs.Definitions.Channels.{acknowledgeAsked}
 use Rattle.rules.specs.Statements.Bits.{bitAt}
 use Rattle.rules.specs.Definitions.Reception.{underWay, isUnderWay, unsettled}
 use Rattle.rules.specs.Definitions.Hearing.{hearIn, hearFrame}
-use Rattle.rules.specs.Definitions.Delivery.{delivered, deliveryTo, deliveryOf, receiveError, reportStored, reportHeard, reportDelivered}
+use Rattle.rules.specs.Definitions.Delivery.{delivered, deliveryTo, deliveryOf}
 use Rattle.rules.specs.Definitions.Attempt.{largest, moreAttempts, atStage, betweenAttempts, isBetween, isAnswered, isAnswering, slotSpent, lostSpent, errorSpent, advance, exhausted}
-use Rattle.rules.specs.Definitions.Service.{stopped, endingOf, settled, reportSending, reportJudged, reportEnded, fulfils, reportReplied}
-use Rattle.rules.specs.Definitions.State.{isActive, inMode, resetCore, idleDue, slept, idleAsked, activated}
-use Rattle.rules.specs.Definitions.Slots.{roleIn, replyVerdict, heardAs, heard, delivers, verdictAs, verdict, serviceJudged, ending, reportAfter, memoryJudged, coreJudged, startMade, followsOn, sampleOf, judgedSlot, sampledSlot, activeSlot}
+use Rattle.rules.specs.Definitions.Service.{stopped, endingOf, settled, reportEnded, fulfils}
+use Rattle.rules.specs.Definitions.State.{isActive, inMode, resetCore, slept, idleAsked, activated}
+use Rattle.rules.specs.Definitions.Slots.{roleIn, replyVerdict, heardAs, heard, delivers, verdictAs, verdict, serviceJudged, ending, reportAfter, memoryJudged, coreJudged, sampleOf, judgedSlot, sampledSlot, activeSlot}
 use Rattle.rules.specs.Definitions.Host.{resetAll, resets, sleeps, modeCommanded, flagsCleared, coreWritten, serviceAsked, stoppedCore, byteWritten, hostWritten}
 use Rattle.rules.specs.Definitions.Run.{fresh, accept, answered, restedSlot, step, next, after}
 use Rattle.rules.proofs.Ranges.Limits.{Fine}
@@ -31,7 +31,8 @@ use Rattle.rules.proofs.Judged.{went, lost, broke, done, Tried, unjudge
 use Rattle.rules.proofs.Ranges.Bytes.{at-below}
 use Rattle.rules.proofs.Ranges.Reach.{verdict-tried, fine-after}
 use Rattle.rules.specs.Statements.Tally.{none}
-use Rattle.rules.proofs.Sending.Follow.{idle-report, choice-flags, isExhausted}
+use Rattle.rules.proofs.Sending.Follow.{idle-report, isExhausted, te-judged}
+use Rattle.rules.proofs.Observer.Flags.{endedFlags, flags-ended, flags-follow, ended-same, isSent, isDone, isFailed, ended-tok, ended-te, raised-by, after-rst, after-tok, after-re, after-rok, after-rnok}
 use Rattle.rules.specs.Statements.Observer.{isStored, accepted}
 use Rattle.rules.proofs.Steps as steps
 use Rattle.rules.proofs.Steps.{Step, step-of, refused-next, refused-not, accepted-next}
@@ -70,89 +71,8 @@ use Rattle.rules.specs.declared.Event.the-variants.{Reset, Write, Read, 
 
 -- ---- the flags after a slot
 
-unfoldable pub endedFlags : Ending → Flags → Flags
-endedFlags Going f = f
-endedFlags Sent f = withTok f true
-endedFlags Exhausted f = withTe f true
-endedFlags Aborted f = f
-endedFlags Rearbitrated f = f
-endedFlags Fulfilled f = f
-
-unfoldable deliveredFlags : Delivery → Bool → Flags → Flags
-deliveredFlags Nothing asked f = f
-deliveredFlags Stored asked f = pick asked (withRok f true) (withRnok f true)
-deliveredFlags Overflowed asked f = withRe f true
-deliveredFlags Spoiled asked f = withRe f true
-
-unfoldable pub repliedFlags : Verdict → Flags → Flags
-repliedFlags Unjudged f = f
-repliedFlags Goes f = f
-repliedFlags Lost f = f
-repliedFlags (Failed code) f = withRe f true
-repliedFlags Done f = withTok f true
-repliedFlags Answered f = f
-
-flags-replied : (q : Verdict) (r : Report) (channel : ℕ) → reportReplied q r channel .flags ≡ repliedFlags q (r .flags)
-unfolding reportReplied repliedFlags
-flags-replied Unjudged r channel = refl
-flags-replied Goes r channel = refl
-flags-replied Lost r channel = refl
-flags-replied (Failed code) r channel = refl
-flags-replied Done r channel = refl
-flags-replied Answered r channel = refl
-
-flags-ended : (x : Ending) (r : Report) (s : Service) → reportEnded x r s .flags ≡ endedFlags x (r .flags)
-unfolding reportEnded endedFlags
-flags-ended Going r s = refl
-flags-ended Sent r s = refl
-flags-ended Exhausted r s = refl
-flags-ended Aborted r s = refl
-flags-ended Rearbitrated r s = refl
-flags-ended Fulfilled r s = refl
-
-flags-delivered : (d : Delivery) (r : Report) (x : Reception) → reportDelivered d r x .flags ≡ deliveredFlags d (acknowledgeAsked (getD (x .bytes) 1 0)) (r .flags)
-unfolding reportDelivered reportStored receiveError deliveredFlags
-flags-delivered Nothing r x = refl
-flags-delivered Stored r x = refl
-flags-delivered Overflowed r x = refl
-flags-delivered Spoiled r x = refl
-
-flags-verdict : (w : Verdict) (r : Report) (s : Service) → reportJudged w r s .flags ≡ r .flags
-unfolding reportJudged reportSending
-flags-verdict Unjudged r s = refl
-flags-verdict Goes r s = refl
-flags-verdict Lost r s = refl
-flags-verdict (Failed code) r s = refl
-flags-verdict Done r s = refl
-flags-verdict Answered r s = refl
-
-flags-heard : (h : Hearing) (r : Report) → reportHeard h r .flags ≡ r .flags
-unfolding reportHeard
-flags-heard Silent r = refl
-flags-heard Follows r = refl
-flags-heard (Fault code) r = refl
-flags-heard Good r = refl
-
 unfoldable pub asked : Reception → Bool
 asked r = acknowledgeAsked (getD (r .bytes) 1 0)
-
-flags-after : (k : Core) (w q : Verdict) (h : Hearing)
-    → reportAfter k w q h .flags ≡ repliedFlags q (endedFlags (ending k w h) (deliveredFlags (delivers (roleIn k) h (k .reception)) (asked (k .reception)) (k .report .flags)))
-unfolding reportAfter asked
-flags-after k w q h =
-    let s : Service = serviceJudged w (k .service) in
-    let d : Report = reportDelivered (delivers (roleIn k) h (k .reception)) (reportHeard h (k .report)) (k .reception) in
-    flags-replied q (reportEnded (ending k w h) (reportJudged w d s) s) (k .reply .channel)
-    ∙ ap (repliedFlags q)
-    (flags-ended (ending k w h) (reportJudged w d s) s
-    ∙ ap (endedFlags (ending k w h))
-    (flags-verdict w d s
-    ∙ flags-delivered (delivers (roleIn k) h (k .reception)) (reportHeard h (k .report)) (k .reception)
-    ∙ ap (deliveredFlags (delivers (roleIn k) h (k .reception)) (acknowledgeAsked (getD (k .reception .bytes) 1 0))) (flags-heard h (k .report))))
-
-flags-follow : (m : List ℕ) (k : Core) → followsOn m k .report .flags ≡ k .report .flags
-unfolding followsOn startMade
-flags-follow m k = choice-flags m (idleDue k) ∙ ap (λ (x : Report). x .flags) (idle-report k)
 
 abbrev pub verdictOf : Controller → ℕ → Verdict
 verdictOf c v = verdict (c .core) v
@@ -169,169 +89,39 @@ endingIn c v = ending (c .core) (verdictOf c v) (heardBy c v)
 abbrev pub deliveryIn : Controller → ℕ → Delivery
 deliveryIn c v = delivers (roleIn (c .core)) (heardBy c v) (c .core .reception)
 
-flags-sampled : (c : Controller) (v : ℕ)
-    → sampledSlot c v .core .report .flags ≡ repliedFlags (replyOf c v) (endedFlags (endingIn c v) (deliveredFlags (deliveryIn c v) (asked (c .core .reception)) (flagsOf c)))
-unfolding sampledSlot judgedSlot coreJudged
-flags-sampled c v =
-    let w : Verdict = verdictOf c v in
-    let q : Verdict = replyOf c v in
-    let h : Hearing = heardBy c v in
-    let m : List ℕ = memoryJudged (c .memory) (c .core) w q h in
-    flags-follow m (coreJudged m (c .core) w q h v) ∙ flags-after (c .core) w q h
-
--- ---- one bit of them
-
-ended-same : (g : Flags → Bool) → ((f : Flags) → g (withTok f true) ≡ g f) → ((f : Flags) → g (withTe f true) ≡ g f) → (x : Ending) (f : Flags) → g (endedFlags x f) ≡ g f
-unfolding endedFlags
-ended-same g p q Going f = refl
-ended-same g p q Sent f = p f
-ended-same g p q Exhausted f = q f
-ended-same g p q Aborted f = refl
-ended-same g p q Rearbitrated f = refl
-ended-same g p q Fulfilled f = refl
-
-replied-same : (g : Flags → Bool) → ((f : Flags) → g (withTok f true) ≡ g f) → ((f : Flags) → g (withRe f true) ≡ g f) → (x : Verdict) (f : Flags) → g (repliedFlags x f) ≡ g f
-unfolding repliedFlags
-replied-same g p q Unjudged f = refl
-replied-same g p q Goes f = refl
-replied-same g p q Lost f = refl
-replied-same g p q (Failed code) f = q f
-replied-same g p q Done f = p f
-replied-same g p q Answered f = refl
-
-delivered-same : (g : Flags → Bool) → ((f : Flags) → g (withRe f true) ≡ g f) → ((f : Flags) → g (withRok f true) ≡ g f) → ((f : Flags) → g (withRnok f true) ≡ g f)
-    → (d : Delivery) (a : Bool) (f : Flags) → g (deliveredFlags d a f) ≡ g f
-unfolding deliveredFlags
-delivered-same g p q r Nothing a f = refl
-delivered-same g p q r Stored a f = left g a (withRok f true) (withRnok f true) (g f) (q f) (r f)
-delivered-same g p q r Overflowed a f = p f
-delivered-same g p q r Spoiled a f = p f
-
-unfoldable pub isSent : Ending → Bool
-isSent Going = false
-isSent Sent = true
-isSent Exhausted = false
-isSent Aborted = false
-isSent Rearbitrated = false
-isSent Fulfilled = false
-
--- the reply is sent whole, or ended by an error
-unfoldable pub isWhole : Verdict → Bool
-isWhole Unjudged = false
-isWhole Goes = false
-isWhole Lost = false
-isWhole (Failed code) = false
-isWhole Done = true
-isWhole Answered = false
-
-unfoldable pub isBroken : Verdict → Bool
-isBroken Unjudged = false
-isBroken Goes = false
-isBroken Lost = false
-isBroken (Failed code) = true
-isBroken Done = false
-isBroken Answered = false
-
-replied-tok : (q : Verdict) (f : Flags) → repliedFlags q f .tok ≡ pick (isWhole q) true (f .tok)
-unfolding repliedFlags isWhole
-replied-tok Unjudged f = refl
-replied-tok Goes f = refl
-replied-tok Lost f = refl
-replied-tok (Failed code) f = refl
-replied-tok Done f = refl
-replied-tok Answered f = refl
-
-replied-re : (q : Verdict) (f : Flags) → repliedFlags q f .re ≡ pick (isBroken q) true (f .re)
-unfolding repliedFlags isBroken
-replied-re Unjudged f = refl
-replied-re Goes f = refl
-replied-re Lost f = refl
-replied-re (Failed code) f = refl
-replied-re Done f = refl
-replied-re Answered f = refl
-
-ended-tok : (x : Ending) (f : Flags) → endedFlags x f .tok ≡ pick (isSent x) true (f .tok)
-unfolding endedFlags isSent
-ended-tok Going f = refl
-ended-tok Sent f = refl
-ended-tok Exhausted f = refl
-ended-tok Aborted f = refl
-ended-tok Rearbitrated f = refl
-ended-tok Fulfilled f = refl
-
-ended-te : (x : Ending) (f : Flags) → endedFlags x f .te ≡ pick (isExhausted x) true (f .te)
-unfolding endedFlags isExhausted
-ended-te Going f = refl
-ended-te Sent f = refl
-ended-te Exhausted f = refl
-ended-te Aborted f = refl
-ended-te Rearbitrated f = refl
-ended-te Fulfilled f = refl
-
-delivered-re : (d : Delivery) (a : Bool) (f : Flags) → deliveredFlags d a f .re ≡ pick (isSpoiled d) true (f .re)
-unfolding deliveredFlags isSpoiled
-delivered-re Nothing a f = refl
-delivered-re Stored true f = refl
-delivered-re Stored false f = refl
-delivered-re Overflowed a f = refl
-delivered-re Spoiled a f = refl
-
-delivered-rok : (d : Delivery) (a : Bool) (f : Flags) → deliveredFlags d a f .rok ≡ pick (both (isStored d) a) true (f .rok)
-unfolding deliveredFlags isStored
-delivered-rok Nothing a f = refl
-delivered-rok Stored true f = refl
-delivered-rok Stored false f = refl
-delivered-rok Overflowed a f = refl
-delivered-rok Spoiled a f = refl
-
-delivered-rnok : (d : Delivery) (a : Bool) (f : Flags) → deliveredFlags d a f .rnok ≡ pick (both (isStored d) (not a)) true (f .rnok)
-unfolding deliveredFlags isStored
-delivered-rnok Nothing a f = refl
-delivered-rnok Stored true f = refl
-delivered-rnok Stored false f = refl
-delivered-rnok Overflowed a f = refl
-delivered-rnok Spoiled a f = refl
-
 module _ (c : Controller) (v : ℕ) where
   abbrev flags : Flags
   flags = sampledSlot c v .core .report .flags
 
-  abbrev ended : Flags
-  ended = endedFlags (endingIn c v) (deliveredFlags (deliveryIn c v) (asked (c .core .reception)) (flagsOf c))
+  abbrev w : Verdict
+  w = verdictOf c v
+
+  abbrev q : Verdict
+  q = replyOf c v
+
+  flags-sampled : flags ≡ reportAfter (c .core) w q (heardBy c v) .flags
+  unfolding sampledSlot judgedSlot coreJudged
+  flags-sampled = let m : List ℕ = memoryJudged (c .memory) (c .core) w q (heardBy c v) in flags-follow m (coreJudged m (c .core) w q (heardBy c v) v)
 
   pub slot-rst : flags .rst ≡ flagsOf c .rst
-  slot-rst =
-      ap (λ (f : Flags). f .rst) (flags-sampled c v) ∙ replied-same (λ f. f .rst) (λ f. refl) (λ f. refl) (replyOf c v) ended
-      ∙ ended-same (λ f. f .rst) (λ f. refl) (λ f. refl) (endingIn c v) _
-      ∙ delivered-same (λ f. f .rst) (λ f. refl) (λ f. refl) (λ f. refl) (deliveryIn c v) (asked (c .core .reception)) (flagsOf c)
+  slot-rst = ap (λ (f : Flags). f .rst) flags-sampled ∙ after-rst (c .core) w q (heardBy c v)
 
-  pub slot-tok : flags .tok ≡ pick (isWhole (replyOf c v)) true (pick (isSent (endingIn c v)) true (flagsOf c .tok))
-  slot-tok =
-      ap (λ (f : Flags). f .tok) (flags-sampled c v) ∙ replied-tok (replyOf c v) ended
-      ∙ ap (λ (b : Bool). pick (isWhole (replyOf c v)) true b)
-      (ended-tok (endingIn c v) _
-      ∙ ap (λ (b : Bool). pick (isSent (endingIn c v)) true b) (delivered-same (λ f. f .tok) (λ f. refl) (λ f. refl) (λ f. refl) (deliveryIn c v) (asked (c .core .reception)) (flagsOf c)))
+  pub slot-tok : flags .tok ≡ pick (isDone q) true (pick (isSent (endingIn c v)) true (flagsOf c .tok))
+  slot-tok = ap (λ (f : Flags). f .tok) flags-sampled ∙ after-tok (c .core) w q (heardBy c v) ∙ sym (raised-by (isDone q) (isSent (endingIn c v)) (flagsOf c .tok))
 
   pub slot-te : flags .te ≡ pick (isExhausted (endingIn c v)) true (flagsOf c .te)
-  slot-te =
-      ap (λ (f : Flags). f .te) (flags-sampled c v) ∙ replied-same (λ f. f .te) (λ f. refl) (λ f. refl) (replyOf c v) ended ∙ ended-te (endingIn c v) _
-      ∙ ap (λ (b : Bool). pick (isExhausted (endingIn c v)) true b) (delivered-same (λ f. f .te) (λ f. refl) (λ f. refl) (λ f. refl) (deliveryIn c v) (asked (c .core .reception)) (flagsOf c))
+  slot-te = ap (λ (f : Flags). f .te) flags-sampled ∙ te-judged (c .core) w q (heardBy c v)
 
-  pub slot-re : flags .re ≡ pick (isBroken (replyOf c v)) true (pick (isSpoiled (deliveryIn c v)) true (flagsOf c .re))
-  slot-re =
-      ap (λ (f : Flags). f .re) (flags-sampled c v) ∙ replied-re (replyOf c v) ended
-      ∙ ap (λ (b : Bool). pick (isBroken (replyOf c v)) true b)
-      (ended-same (λ f. f .re) (λ f. refl) (λ f. refl) (endingIn c v) _ ∙ delivered-re (deliveryIn c v) (asked (c .core .reception)) (flagsOf c))
+  pub slot-re : flags .re ≡ pick (isFailed q) true (pick (isSpoiled (deliveryIn c v)) true (flagsOf c .re))
+  slot-re = ap (λ (f : Flags). f .re) flags-sampled ∙ after-re (c .core) w q (heardBy c v) ∙ sym (raised-by (isFailed q) (isSpoiled (deliveryIn c v)) (flagsOf c .re))
 
   pub slot-rok : flags .rok ≡ pick (both (isStored (deliveryIn c v)) (asked (c .core .reception))) true (flagsOf c .rok)
-  slot-rok =
-      ap (λ (f : Flags). f .rok) (flags-sampled c v) ∙ replied-same (λ f. f .rok) (λ f. refl) (λ f. refl) (replyOf c v) ended
-      ∙ ended-same (λ f. f .rok) (λ f. refl) (λ f. refl) (endingIn c v) _ ∙ delivered-rok (deliveryIn c v) (asked (c .core .reception)) (flagsOf c)
+  unfolding asked
+  slot-rok = ap (λ (f : Flags). f .rok) flags-sampled ∙ after-rok (c .core) w q (heardBy c v)
 
   pub slot-rnok : flags .rnok ≡ pick (both (isStored (deliveryIn c v)) (not (asked (c .core .reception)))) true (flagsOf c .rnok)
-  slot-rnok =
-      ap (λ (f : Flags). f .rnok) (flags-sampled c v) ∙ replied-same (λ f. f .rnok) (λ f. refl) (λ f. refl) (replyOf c v) ended
-      ∙ ended-same (λ f. f .rnok) (λ f. refl) (λ f. refl) (endingIn c v) _ ∙ delivered-rnok (deliveryIn c v) (asked (c .core .reception)) (flagsOf c)
+  unfolding asked
+  slot-rnok = ap (λ (f : Flags). f .rnok) flags-sampled ∙ after-rnok (c .core) w q (heardBy c v)
 
 -- ---- the flags after a write
 
@@ -550,8 +340,8 @@ ending-done k w h = go (fulfils (delivers (roleIn k) h (k .reception)) (k .recep
     go true e = absurd (false≢true (unfold isSent in e))
     go false e = sent-done w (serviceJudged w (k .service)) e
 
-whole-done : (q : Verdict) → isWhole q ≡ true → q ≡ Done
-unfolding isWhole
+whole-done : (q : Verdict) → isDone q ≡ true → q ≡ Done
+unfolding isDone
 whole-done Unjudged e = absurd (false≢true e)
 whole-done Goes e = absurd (false≢true e)
 whole-done Lost e = absurd (false≢true e)
@@ -567,16 +357,16 @@ completes-raised c (Slot l) (completes s d) =
     let v : ℕ = sampleOf c l in
     let p : isSent (endingIn c v) ≡ true = ap isSent (judged-ending (c .core) v (heardBy c v) Done d (unfold isJudged in refl)) ∙ (unfold endingOf isSent in refl) in
     ap (λ (x : Controller). flagsOf x .tok) (slot-sampled c l (s .taken) (s .active)) ∙ slot-tok c v
-    ∙ ap (λ (b : Bool). pick (isWhole (replyOf c v)) true (pick b true (flagsOf c .tok))) p ∙ pick-same (isWhole (replyOf c v)) true
+    ∙ ap (λ (b : Bool). pick (isDone (replyOf c v)) true (pick b true (flagsOf c .tok))) p ∙ pick-same (isDone (replyOf c v)) true
 completes-raised c (Slot l) (replied s d) =
     let v : ℕ = sampleOf c l in
     ap (λ (x : Controller). flagsOf x .tok) (slot-sampled c l (s .taken) (s .active)) ∙ slot-tok c v
-    ∙ ap (λ (q : Verdict). pick (isWhole q) true (pick (isSent (endingIn c v)) true (flagsOf c .tok))) d ∙ (unfold isWhole in refl)
+    ∙ ap (λ (q : Verdict). pick (isDone q) true (pick (isSent (endingIn c v)) true (flagsOf c .tok))) d ∙ (unfold isDone in refl)
 
 completes-slot : (c : Controller) (l : ℕ) → Sampled c l → flagsOf c .tok ≡ false → sampledSlot c (sampleOf c l) .core .report .flags .tok ≡ true → Completes c (Slot l)
 completes-slot c l s e h =
     let v : ℕ = sampleOf c l in
-    one-passed (isWhole (replyOf c v)) (isSent (endingIn c v)) e (sym (slot-tok c v) ∙ h) (λ p. replied s (whole-done (replyOf c v) p))
+    one-passed (isDone (replyOf c v)) (isSent (endingIn c v)) e (sym (slot-tok c v) ∙ h) (λ p. replied s (whole-done (replyOf c v) p))
     (λ p. completes s (ending-done (c .core) (verdictOf c v) (heardBy c v) p))
 
 tok-by : (c : Controller) → Raised (λ f. f .tok) Completes c
@@ -801,7 +591,7 @@ spoiled-raised : (c : Controller) (l : ℕ) → Sampled c l → isSpoiled (deliv
 spoiled-raised c l s d =
     let v : ℕ = sampleOf c l in
     ap (λ (x : Controller). flagsOf x .re) (slot-sampled c l (s .taken) (s .active)) ∙ slot-re c v
-    ∙ ap (λ (b : Bool). pick (isBroken (replyOf c v)) true (pick b true (flagsOf c .re))) d ∙ pick-same (isBroken (replyOf c v)) true
+    ∙ ap (λ (b : Bool). pick (isFailed (replyOf c v)) true (pick b true (flagsOf c .re))) d ∙ pick-same (isFailed (replyOf c v)) true
 
 spoils-raised : (c : Controller) (e : Event) → Spoils c e → flagsOf (next c e) .re ≡ true
 spoils-raised c (Slot l) (fault code r d) =
@@ -813,7 +603,7 @@ spoils-raised c (Slot l) (overflow r d n) =
 spoils-raised c (Slot l) (broken code s d) =
     let v : ℕ = sampleOf c l in
     ap (λ (x : Controller). flagsOf x .re) (slot-sampled c l (s .taken) (s .active)) ∙ slot-re c v
-    ∙ ap (λ (q : Verdict). pick (isBroken q) true (pick (isSpoiled (deliveryIn c v)) true (flagsOf c .re))) d ∙ (unfold isBroken in refl)
+    ∙ ap (λ (q : Verdict). pick (isFailed q) true (pick (isSpoiled (deliveryIn c v)) true (flagsOf c .re))) d ∙ (unfold isFailed in refl)
 
 spoils-heard : (c : Controller) (l : ℕ) → Received c l → (h : Hearing) → hearingIn c l ≡ h → isSpoiled (deliveryTo h (c .core .reception)) ≡ true → Spoils c (Slot l)
 unfolding deliveryTo delivered
@@ -826,8 +616,8 @@ spoils-heard c l r Good e d = overflow r e (go (fitting c) d)
     go true d = not-at-reset (unfold isSpoiled in d)
     go false d = refl
 
-spoils-reply : (c : Controller) (l : ℕ) → Sampled c l → (q : Verdict) → replyIn c l ≡ q → isBroken q ≡ true → Spoils c (Slot l)
-unfolding isBroken
+spoils-reply : (c : Controller) (l : ℕ) → Sampled c l → (q : Verdict) → replyIn c l ≡ q → isFailed q ≡ true → Spoils c (Slot l)
+unfolding isFailed
 spoils-reply c l s Unjudged e d = not-at-reset d
 spoils-reply c l s Goes e d = not-at-reset d
 spoils-reply c l s Lost e d = not-at-reset d
@@ -838,7 +628,7 @@ spoils-reply c l s Answered e d = not-at-reset d
 spoils-slot : (c : Controller) (l : ℕ) → Sampled c l → flagsOf c .re ≡ false → sampledSlot c (sampleOf c l) .core .report .flags .re ≡ true → Spoils c (Slot l)
 spoils-slot c l s e h =
     let v : ℕ = sampleOf c l in
-    one-passed (isBroken (replyOf c v)) (isSpoiled (deliveryIn c v)) e (sym (slot-re c v) ∙ h) (λ p. spoils-reply c l s (replyOf c v) refl p)
+    one-passed (isFailed (replyOf c v)) (isSpoiled (deliveryIn c v)) e (sym (slot-re c v) ∙ h) (λ p. spoils-reply c l s (replyOf c v) refl p)
     (λ p. let t = took c l s isSpoiled (unfold isSpoiled in refl) p in spoils-heard c l (t .0) (hearingIn c l) refl (t .1))
 
 re-by : (c : Controller) → Raised (λ f. f .re) Spoils c

@@ -1,6 +1,6 @@
 -- Demand 3, and what every event leaves, over every list of events.
 use Prim.Native.Nat.{ℕ, _+_, _<_}
-use mathlib.Core.Bool.{Bool, true, false, false≢true}
+use mathlib.Core.Bool.{Bool, true, false}
 use mathlib.Core.List.{List, [], _∷_}
 use mathlib.Core.Path.{_≡_, refl, ap, _∙_, sym, subst}
 use native.Mathlib.Omega.{arith}
@@ -12,7 +12,7 @@ use Rattle.rules.specs.Definitions.Attempt.{atStage, isDriving, drivesFr
 use Rattle.rules.specs.Definitions.State.{isActive}
 use Rattle.rules.specs.Definitions.Slots.{drives, sampleOf}
 use Rattle.rules.specs.Definitions.Run.{fresh, next}
-use Rattle.rules.specs.Statements.Tally.{Stand, away, between, opening, inside, answered, Tally, none, Answering, countedIn, countedT}
+use Rattle.rules.specs.Statements.Tally.{Stand, away, between, opening, inside, answered, Tally, Answering, countedIn, countedT}
 use Rattle.rules.specs.Statements.Observer as observer
 use Rattle.rules.specs.Statements.Observer.{Replying, silent, replies, isReplying, Observer, atReset, answerIn, answerO, accepted, seenO, nextO}
 use Rattle.rules.specs.Statements.Sending.{levelIn, levelO, AtAcknowledge, InSlot, DrivesAnswered, DrivesReply, Outside, te, Claim, SendingOver}
@@ -21,12 +21,12 @@ use Rattle.rules.proofs.Steps.{step-of}
 use Rattle.rules.proofs.Ranges.Limits.{Fine}
 use Rattle.rules.proofs.Ranges.Reach.{fine-fresh, fine-next}
 use Rattle.rules.proofs.Sending.Beside as beside
-use Rattle.rules.proofs.Sending.Beside.{answerC, seenT, nextT, Holds}
+use Rattle.rules.proofs.Sending.Beside.{answerC, seenT, Holds}
 use Rattle.rules.proofs.Sending.Bound.{Coming}
 use Rattle.rules.proofs.Sending.Join.{made, serviceIn, serviceOf}
 use Rattle.rules.specs.Statements.Receiving.{Log, noLog, logNext}
 use Rattle.rules.proofs.Receiving.Answers.{Kept, kept-fresh, kept-next, coming}
-use Rattle.rules.proofs.Sending.Demand3.{Joined, claim}
+use Rattle.rules.proofs.Sending.Demand3.{claim}
 use Rattle.rules.proofs.Observer.Agreed.{Same, Followed, same-next, same-fresh, agrees}
 use Rattle.rules.proofs.Observer.Replies.{reply-level, fits-so, same-going, part-driven}
 use Rattle.rules.proofs.Observer.Settled.{settles}

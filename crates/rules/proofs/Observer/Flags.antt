@@ -16,7 +16,7 @@ use Rattle.rules.specs.Definitions.Slots.{roleIn, delivers, serviceJudge
 use Rattle.rules.specs.Statements.Observer.{isStored}
 use Rattle.rules.specs.Statements.Settled.{isSpoiled}
 use Rattle.rules.proofs.Logic.{left}
-use Rattle.rules.proofs.Sending.Follow.{idle-report, choice-flags}
+use Rattle.rules.proofs.Sending.Follow.{idle-report, choice-flags, isExhausted}
 use Rattle.rules.specs.declared.Flags.{Flags}
 use Rattle.rules.specs.declared.Report.{Report}
 use Rattle.rules.specs.declared.Reception.{Reception}
@@ -55,7 +55,7 @@ repliedFlags (Failed code) f = withRe f true
 repliedFlags Done f = withTok f true
 repliedFlags Answered f = f
 
-flags-ended : (x : Ending) (r : Report) (s : Service) → reportEnded x r s .flags ≡ endedFlags x (r .flags)
+pub flags-ended : (x : Ending) (r : Report) (s : Service) → reportEnded x r s .flags ≡ endedFlags x (r .flags)
 unfolding reportEnded endedFlags
 flags-ended Going r s = refl
 flags-ended Sent r s = refl
@@ -103,7 +103,7 @@ flags-follow m k = choice-flags m (idleDue k) ∙ ap (λ (x : Report). x .flags)
 -- ---- one of them
 
 -- a bit that the end of a service leaves
-ended-same : (g : Flags → Bool) → ((f : Flags) → g (withTok f true) ≡ g f) → ((f : Flags) → g (withTe f true) ≡ g f) → (x : Ending) (f : Flags) → g (endedFlags x f) ≡ g f
+pub ended-same : (g : Flags → Bool) → ((f : Flags) → g (withTok f true) ≡ g f) → ((f : Flags) → g (withTe f true) ≡ g f) → (x : Ending) (f : Flags) → g (endedFlags x f) ≡ g f
 unfolding endedFlags
 ended-same g p q Going f = refl
 ended-same g p q Sent f = p f
@@ -154,7 +154,7 @@ isFailed (Failed code) = true
 isFailed Done = false
 isFailed Answered = false
 
-ended-tok : (x : Ending) (f : Flags) → endedFlags x f .tok ≡ pick (isSent x) true (f .tok)
+pub ended-tok : (x : Ending) (f : Flags) → endedFlags x f .tok ≡ pick (isSent x) true (f .tok)
 unfolding endedFlags isSent
 ended-tok Going f = refl
 ended-tok Sent f = refl
@@ -162,6 +162,15 @@ ended-tok Exhausted f = refl
 ended-tok Aborted f = refl
 ended-tok Rearbitrated f = refl
 ended-tok Fulfilled f = refl
+
+pub ended-te : (x : Ending) (f : Flags) → endedFlags x f .te ≡ pick (isExhausted x) true (f .te)
+unfolding endedFlags isExhausted
+ended-te Going f = refl
+ended-te Sent f = refl
+ended-te Exhausted f = refl
+ended-te Aborted f = refl
+ended-te Rearbitrated f = refl
+ended-te Fulfilled f = refl
 
 replied-tok : (q : Verdict) (f : Flags) → repliedFlags q f .tok ≡ pick (isDone q) true (f .tok)
 unfolding repliedFlags isDone
@@ -206,7 +215,7 @@ delivered-rnok Overflowed a f = refl
 delivered-rnok Spoiled a f = refl
 
 -- raised by either of two
-raised-by : (a b x : Bool) → pick a true (pick b true x) ≡ pick (either b a) true x
+pub raised-by : (a b x : Bool) → pick a true (pick b true x) ≡ pick (either b a) true x
 raised-by true true x = refl
 raised-by true false x = refl
 raised-by false true x = refl

@@ -1,7 +1,7 @@
 -- The controller's immediate reply is the observer's (02, Req 01).
 --   replyOf == the reply that the observer's stands for        ReplyFits == its frame fits        SameReply == both
 --   own-heard == what a sample is for a frame of the model's own        repliedOf == how a sample ends the reply
-use Prim.Native.Nat.{ℕ, _+_, _*_, _≤_, _<_}
+use Prim.Native.Nat.{ℕ, _+_, _*_, _<_}
 use mathlib.Core.Bool.{Bool, true, false, false≢true}
 use mathlib.Core.List.{List, [], _∷_, _++_}
 use mathlib.Core.Path.{_≡_, refl, ap, _∙_, sym, subst}

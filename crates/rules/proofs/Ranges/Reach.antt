@@ -18,7 +18,7 @@ use Rattle.rules.specs.Definitions.Reception.{unsettled, readsAsked}
 use Rattle.rules.specs.Definitions.Hearing.{hearFrame}
 use Rattle.rules.specs.Definitions.Delivery.{deliveryOf}
 use Rattle.rules.specs.Definitions.Service.{endingOf, goodFor, answeredAs, fulfils, judgeReply, replyTaken, stopped, choose, aborts, abortAsked, rearAsked}
-use Rattle.rules.specs.Definitions.State.{inRange, isActive, isAsleep, serving, inMode, resetCore, idled, idleDue, slept, idleAsked, activated}
+use Rattle.rules.specs.Definitions.State.{inRange, isActive, serving, inMode, resetCore, idled, idleDue, slept, idleAsked, activated}
 use Rattle.rules.specs.Definitions.Slots.{roleIn, replyVerdict, heardAs, heard, delivers, verdictAs, verdict, serviceJudged, ending, receptionJudged, reportAfter, memoryJudged, replyAfter, coreJudged, chooses, choiceMade, startMade, followsOn, sampleOf, judgedSlot, sampledSlot, activeSlot}
 use Rattle.rules.specs.Definitions.Host.{resetAll, resets, sleeps, modeCommanded, rearCommanded, keptByte, flagsCleared, coreWritten, serviceAsked, stoppedCore, byteWritten, hostWritten, byteRead, accessRefusals, writeRefusals, readRefusals}
 use Rattle.rules.specs.Definitions.Answers.{number}

@@ -1,31 +1,26 @@
 -- What a sample, the choice, the start, an abort and REAR do to a fine service, and the service to the registers and the memory map.
 --   Served == the service between events        Spent == the service once the attempt has spent the slot
 --   Ends == how it may end: it goes on only with errors at most R
-use Prim.Native.Nat.{ℕ, _+_, _-_, _%_, _≤_, _<_}
+use Prim.Native.Nat.{ℕ, _-_, _%_, _≤_}
 use mathlib.Core.Bool.{Bool, false, false≢true}
 use mathlib.Core.List.{List}
 use mathlib.Core.Path.{_≡_, sym}
 use native.Mathlib.Omega.{arith}
 use borrow.Author.Tests.{ltb-true, ltb-false}
-use lib.Dec.{eqb, ltb}
+use lib.Dec.{ltb}
 use lib.ListN.{getD}
 use Rattle.line.specs.Bits.{Below}
 use Rattle.line.specs.Frame.{size}
 use Rattle.line.proofs.Laws.{picked}
-use Rattle.line.specs.Layout.{partOf, halfOf}
-use Rattle.line.specs.declared.Part.{Part}
-use Rattle.line.specs.declared.Part.the-variants.{Start, Identifier, Command, Data, Check, EndOfData, Acknowledge, EndOfFrame, After}
-use Rattle.line.specs.declared.Half.{Half}
-use Rattle.line.specs.declared.Half.the-variants.{Plain, First, Second}
 use Rattle.rules.specs.Definitions.Setters.{withError}
 use Rattle.rules.specs.Definitions.Longest.{capacity}
-use Rattle.rules.specs.Definitions.Registers.{both, CV, ACKE, FCSE}
+use Rattle.rules.specs.Definitions.Registers.{both}
 use Rattle.rules.specs.Definitions.Channels.{bufferOf}
 use Rattle.rules.specs.Definitions.Mailbox.{dataIn, frameWith, replyFrame, coded}
 use Rattle.rules.specs.Definitions.Reception.{free, underWay, startEnded, replyLow}
-use Rattle.rules.specs.Definitions.Attempt.{noCounts, atStage, isBetween, betweenAttempts, waits, drivesFrame, levelAt, due, judgeSlot, slotSpent, lostSpent, errorSpent, advance, exhausted}
+use Rattle.rules.specs.Definitions.Attempt.{noCounts, atStage, isBetween, betweenAttempts, waits, slotSpent, lostSpent, errorSpent, advance, exhausted}
 use Rattle.rules.specs.Definitions.Service.{resting, stopped, endingOf, settled, memoryEnded, retriesOf, reportSending, reportJudged, reportEnded, noReply, judgeReply, replyMoved, replied, memoryReplied, reportReplied, replyBy, replyTaken, chosen, choiceOf, choose, opened, started, abortAsked, rearAsked, hearOwn}
-use Rattle.rules.proofs.Judged.{Judged, went, lost, broke, done, answered, slot-judged, Awaited, on, broken, fulfilled, Tried, unjudged, judged, awaited}
+use Rattle.rules.proofs.Judged.{Judged, went, lost, broke, done, answered, slot-judged, on, broken, fulfilled, Tried, unjudged, judged, awaited}
 use Rattle.rules.proofs.Ranges.Limits.{ReplyLimits, ServiceLimits, RetriesLimits, ReportLimits}
 use Rattle.rules.proofs.Ranges.Bytes.{data-small, mailbox-length, fits-sent, setting-small, cher-below, chtx-below, chrx-below, Named, nothing, channel, ready-named, replier-named}
 use Rattle.rules.proofs.Ranges.Reception.{Heard, silent, follows, fault, good}

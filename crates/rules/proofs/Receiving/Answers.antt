@@ -1,6 +1,6 @@
 -- How far the answer to a request has come: the log has as many samples of the frame as the tally has slots of it.
 --   Kept == controller, tally and log belong together: kept-fresh, kept-next        coming == so an answer that goes on is not yet at its longest
-use Prim.Native.Nat.{ℕ, _+_, _*_, _≤_, _<_, _%_}
+use Prim.Native.Nat.{ℕ, _+_, _<_, _%_}
 use mathlib.Core.Bool.{Bool, true, false, false≢true}
 use mathlib.Core.List.{List, [], _∷_, _++_}
 use mathlib.Core.Path.{_≡_, refl, ap, _∙_, sym, subst}
@@ -8,7 +8,7 @@ use native.Mathlib.Omega.{arith}
 use borrow.Author.Tests.{eqb-true}
 use lib.Dec.{eqb, ltb}
 use lib.ListN.{length, getD, length-append}
-use Rattle.line.specs.Bits.{pick, Below}
+use Rattle.line.specs.Bits.{pick}
 use Rattle.line.specs.Frame.{Frame, size}
 use Rattle.line.specs.Layout.{partOf, halfOf}
 use Rattle.line.proofs.Laws.{picked}
@@ -18,20 +18,18 @@ use Rattle.rules.specs.Definitions.Reception.{free, underWay, startEnded
 use Rattle.rules.specs.Definitions.Hearing.{hearFrame}
 use Rattle.rules.specs.Definitions.Longest.{longestOf}
 use Rattle.rules.specs.Definitions.Attempt.{atStage, drivesFrame, isDriving, isAnswered, isAnswering}
-use Rattle.rules.specs.Definitions.Service.{resting}
 use Rattle.rules.specs.Definitions.State.{isActive, resetCore}
 use Rattle.rules.specs.Definitions.Slots as slot-rule
-use Rattle.rules.specs.Definitions.Slots.{heard, drives, sampleOf, sampledSlot, activeSlot}
+use Rattle.rules.specs.Definitions.Slots.{heard, drives, sampleOf, activeSlot}
 use Rattle.rules.specs.Definitions.Host.{resetAll, resets, sleeps, hostWritten}
 use Rattle.rules.specs.Definitions.Run as run
-use Rattle.rules.specs.Definitions.Run.{fresh, accept, restedSlot, step, next}
+use Rattle.rules.specs.Definitions.Run.{fresh, restedSlot, step, next}
 use Rattle.rules.specs.Statements.Tally as tally
 use Rattle.rules.specs.Statements.Tally.{Stand, away, between, opening, inside, answered, Tally, none, Verdict, goes, contended, failed, sent, answers, Answering, comes, taken, wasted, dueLevel, openHalfT, arbitratedT, requestT, verdict, spentT, judgedAs, repliedAs, countedIn, countedT, givenUp, endedIn, endedT, chosenT, choiceT, chooseIn, chooseT, startIn, startT, asks, askedIn, askedT}
 use Rattle.rules.specs.Statements.Observer.{heardDelivery, isStored, answerIn, fulfilledT, accepted}
 use Rattle.rules.specs.Statements.Receiving.{Log, noLog, sampledLog, logIn, logNext}
 use Rattle.rules.proofs.Logic.{both-true}
-use Rattle.rules.proofs.Samples.{sample-small}
-use Rattle.rules.proofs.Steps.{Step, refusal, reset, wrote, gave, went, rested, step-of, refused-tally, refused-not, accepted-next, accepted-tally, accepted-so}
+use Rattle.rules.proofs.Steps.{Step, refusal, reset, wrote, gave, went, rested, step-of, refused-tally, refused-not, accepted-tally, accepted-so}
 use Rattle.rules.proofs.Ranges.Limits.{Fine}
 use Rattle.rules.proofs.Ranges.Reach.{fine-next}
 use Rattle.rules.proofs.Sending.Join.{made, serviceIn, serviceOf}

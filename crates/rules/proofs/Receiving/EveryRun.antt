@@ -12,9 +12,8 @@ use Rattle.line.specs.Bits.{pick, bits}
 use Rattle.line.specs.LineCode.{lineCode}
 use Rattle.line.specs.Frame.{Frame, Fits, slots, size}
 use Rattle.line.proofs.Laws.{bits-length, code-length, slots-length, picked}
-use Rattle.rules.specs.Definitions.Setters.{withReport, withService}
 use Rattle.rules.specs.Definitions.Channels.{base}
-use Rattle.rules.specs.Definitions.Mailbox.{stored, markedCher, markedChtx, markedChrx}
+use Rattle.rules.specs.Definitions.Mailbox.{stored, markedCher}
 use Rattle.rules.specs.Definitions.Reception.{atPlace, isUnderWay, takesStart, underWay, commandEnded, begun, moved, entered, bitTaken, bitsLaid, dataEnded, nibbleTaken, followStart, followBody, followIn, followed, winnerTaken, followAcknowledge, followEnd}
 use Rattle.rules.specs.Definitions.Hearing.{receptionAfter, hearFrame, hearQuiet, acknowledges, acknowledgeLevel, receiverIn, receiverLevel, fits}
 use Rattle.rules.specs.Statements.Valid.{high, low, owes, Valid}
@@ -23,23 +22,20 @@ use Rattle.rules.proofs.Receiving.InvariantFrames.{start-long, acknowle
 use Rattle.rules.proofs.Receiving.InvariantLaws.{invariant-silent, invariant-header, invariant-good, invariant-last, invariant-fault, invariant-acknowledges}
 use Rattle.rules.specs.Definitions.Delivery.{deliveryTo, delivered, deliveryOf, memoryStored, memoryDelivered, reportHeard, reportDelivered, reportStored, receiveError}
 use Rattle.rules.specs.Definitions.Attempt.{drivesFrame, advance, isAnswered}
-use Rattle.rules.specs.Definitions.Service.{stopped, endingOf, memoryEnded, reportJudged, reportEnded, reportSending, choose, goodFor, answeredAs, fulfils, memoryReplied, reportReplied, receives}
-use Rattle.rules.specs.Definitions.State.{isActive, inMode, serving, resetCore, idled, idleDue}
+use Rattle.rules.specs.Definitions.Service.{stopped, endingOf, memoryEnded, reportJudged, reportEnded, reportSending, goodFor, answeredAs, fulfils, memoryReplied, reportReplied, receives}
+use Rattle.rules.specs.Definitions.State.{isActive, inMode, serving, idled, idleDue}
 use Rattle.rules.specs.Definitions.Longest.{longestOf}
 use Rattle.rules.specs.Definitions.Registers.{BOV, CV}
 use Rattle.rules.specs.declared.Report.{Report}
-use Rattle.rules.specs.Definitions.Slots.{roleIn, heardAs, heard, serviceJudged, receptionJudged, delivers, ending, reportAfter, memoryJudged, coreJudged, chooses, choiceMade, startMade, followsOn, drivesAs, drives, sampleOf, judgedSlot, sampledSlot, activeSlot, replyVerdict, verdictAs, verdict}
-use Rattle.rules.specs.Definitions.Host.{resetAll}
+use Rattle.rules.specs.Definitions.Slots.{roleIn, heardAs, heard, serviceJudged, receptionJudged, delivers, ending, reportAfter, memoryJudged, coreJudged, followsOn, drivesAs, drives, sampleOf, judgedSlot, sampledSlot, activeSlot, replyVerdict, verdictAs, verdict}
 use Rattle.rules.specs.Definitions.Run.{fresh, answered, next}
 use Rattle.rules.specs.Statements.Tally.{Tally, none}
 use Rattle.rules.specs.Statements.Observer.{accepted}
 use Rattle.rules.proofs.Sending.Beside.{nextT}
-use Rattle.rules.proofs.Sending.Join.{serviceIn, serviceOf}
 use Rattle.rules.proofs.Steps.{Step, refusal, went, rested, step-of, refused-not, accepted-next}
 use Rattle.rules.proofs.Sending.Follow.{follows-activity, follows-reception, follows-error}
 use Rattle.rules.proofs.Ranges.Limits.{Fine}
 use Rattle.rules.proofs.Ranges.Reach.{fine-fresh, fine-next}
-use Rattle.rules.proofs.Sending.Bound.{good-none}
 use Rattle.rules.proofs.Sending.Demand3.{Joined, joined-next, joined-fresh}
 use Rattle.rules.specs.Statements.Receiving.{Log, noLog, storedFrame, received, errorAfter, logNext, taker, hears, Taken, Delivers, role, Heeds, DeliversIn, Owing, Acknowledges, ReceivingOver, untaken}
 use Rattle.rules.specs.Statements.Interrupts.{ownFrame}
@@ -64,7 +60,7 @@ use Rattle.rules.specs.declared.Effort.{Effort}
 use Rattle.rules.specs.declared.ImmediateReply.{ImmediateReply}
 use Rattle.rules.specs.declared.Service.{Service}
 use Rattle.rules.specs.declared.Verdict.{Verdict}
-use Rattle.rules.specs.declared.Verdict.the-variants.{Unjudged, Goes, Lost, Failed, Done, Answered}
+use Rattle.rules.specs.declared.Verdict.the-variants.{Unjudged}
 use Rattle.rules.specs.declared.Ending.{Ending}
 use Rattle.rules.specs.declared.Ending.the-variants.{Going, Sent, Exhausted, Aborted, Rearbitrated, Fulfilled}
 use Rattle.rules.specs.declared.Role.{Role}

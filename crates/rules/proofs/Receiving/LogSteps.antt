@@ -1,6 +1,6 @@
 -- Controller and log over every event: idle, choice and start, a host write, a slot.
 --   Logs == they belong together: next-logs
-use Prim.Native.Nat.{ℕ, _-_, _/_, _%_, _<_, _≤_, _+_}
+use Prim.Native.Nat.{ℕ, _-_, _%_, _<_, _≤_}
 use mathlib.Core.Bool.{Bool, true, false, false≢true, not}
 use mathlib.Core.List.{List}
 use mathlib.Core.Path.{_≡_, refl, ap, _∙_, sym, subst}
@@ -13,15 +13,15 @@ use Rattle.line.specs.Frame.{Fits}
 use Rattle.line.proofs.Laws.{picked}
 use Rattle.rules.specs.Definitions.Setters.{withActivity, withReport, withService}
 use Rattle.rules.specs.Definitions.Longest.{capacity, longestOf}
-use Rattle.rules.specs.Definitions.Registers.{both, lineControl, diagnosisControl, command, interruptReset, transmitControl, retrySetting, autonomous, asksIdle, asksActivation, asksRearbitration, inputLevel, inverted, sampled, selectedInput, invertsReceive}
+use Rattle.rules.specs.Definitions.Registers.{both, command, interruptReset, transmitControl, retrySetting, autonomous, asksIdle, asksActivation}
 use Rattle.rules.specs.Definitions.Channels.{lowestReady}
 use Rattle.rules.specs.Definitions.Reception.{atPlace, quiet, isUnderWay, underWay, behind, inBody, isBody, free, startEnded}
 use Rattle.rules.proofs.Receiving.InvariantLaws.{invariant-under-way}
 use Rattle.rules.specs.Definitions.Attempt.{atStage, betweenAttempts, isBetween, drivesFrame, isDriving, noCounts, inService, isServing, waits, isWaiting, exhausted, isAnswered, isAnswering}
-use Rattle.rules.specs.Definitions.Service.{resting, stopped, settled, reportSending, reportEnded, chosen, choiceOf, choose, opened, started, abortAsked, rearAsked, aborts, noReply, fulfils}
+use Rattle.rules.specs.Definitions.Service.{resting, stopped, settled, reportSending, reportEnded, chosen, choiceOf, choose, opened, started, noReply, fulfils}
 use Rattle.rules.specs.Definitions.State.{isActive, inMode, serving, resetCore, idled, idleDue, slept, idleAsked, activated}
 use Rattle.rules.specs.Definitions.Slots.{heard, ending, memoryJudged, coreJudged, chooses, choiceMade, startMade, followsOn, sampleOf, judgedSlot, sampledSlot, activeSlot, roleIn, replyVerdict, heardAs, delivers, verdictAs, verdict}
-use Rattle.rules.specs.Definitions.Host.{resetAll, resets, sleeps, modeCommanded, rearCommanded, flagsCleared, coreWritten, serviceAsked, stoppedCore, byteWritten, hostWritten}
+use Rattle.rules.specs.Definitions.Host.{resetAll, resets, sleeps, modeCommanded, flagsCleared, coreWritten, serviceAsked, stoppedCore, byteWritten, hostWritten}
 use Rattle.rules.specs.Definitions.Run.{accept, restedSlot, step, next}
 use Rattle.rules.specs.Definitions.Run as run
 use Rattle.rules.specs.Statements.Tally.{Stand, away, between, opening, inside, Tally, isAway, answered}
@@ -39,8 +39,7 @@ use Rattle.rules.specs.declared.Report.{Report}
 use Rattle.rules.specs.declared.Choice.{Choice}
 use Rattle.rules.specs.declared.Choice.the-variants.{Nothing, Lowest}
 use Rattle.rules.specs.declared.Line.{Line}
-use Rattle.rules.specs.declared.Phase.{Phase}
-use Rattle.rules.specs.declared.Phase.the-variants.{Quiet, Start, Body, Acknowledge, End}
+use Rattle.rules.specs.declared.Phase.the-variants.{Body}
 use Rattle.rules.specs.declared.Reception.{Reception}
 use Rattle.rules.specs.declared.Stage.{Stage}
 use Rattle.rules.specs.declared.Stage.the-variants as stage

@@ -3,7 +3,6 @@
 use Prim.Native.Nat.{ℕ, _+_, _*_, _≤_, _%_}
 use mathlib.Core.Bool.{true, false}
 use mathlib.Core.Path.{_≡_}
-use lib.ListN.{length}
 use Rattle.line.specs.Bits.{pick}
 use Rattle.line.specs.Frame.{Fits, size}
 use Rattle.rules.specs.Definitions.Longest.{longestOf}

@@ -1,7 +1,7 @@
 -- Demand 3 over an event, of the tally that is stepped with the controller's own mode, line and frame.
 use Prim.Native.Nat.{ℕ, _+_, _≤_, _<_, _%_}
 use mathlib.Core.Bool.{Bool, true, false, not, false≢true}
-use mathlib.Core.List.{List, [], _∷_}
+use mathlib.Core.List.{List}
 use mathlib.Core.Path.{_≡_, refl, ap, _∙_, sym, subst}
 use native.Mathlib.Omega.{arith}
 use borrow.Author.Tests.{lt-ltb, le-ltb, ltb-true}
@@ -29,15 +29,15 @@ use Rattle.rules.proofs.Samples.{sample-small}
 use Rattle.rules.proofs.Ranges.Limits.{Fine}
 use Rattle.rules.proofs.Sending.Join.{made, serviceIn, serviceOf, settled-is, request-same, slot-settled, asked-is, drivenIn, attempting, Replies, on, off, well, JudgedIn}
 use Rattle.rules.proofs.Sending.Follow.{isExhausted, te-judged, follows-te, follows-service, written-te, stopped-service, stopped-te}
-use Rattle.rules.proofs.Sending.Ends.{stopped-is, exhausts-rest, Tells, tells}
-use Rattle.rules.proofs.Ranges.Reach.{fine-fresh, fine-next}
+use Rattle.rules.proofs.Sending.Ends.{stopped-is, exhausts-rest, tells}
+use Rattle.rules.proofs.Ranges.Reach.{fine-next}
 use Rattle.rules.specs.Statements.Tally.{Stand, away, between, opening, inside, answered, Tally, none, taken, wasted, requestT, countedIn, countedT, endedT, askedT, isAway}
 use Rattle.rules.specs.Statements.Observer.{fitting, heardDelivery, isStored, answerIn, waits, fulfilledT, accepted}
 use Rattle.rules.specs.Statements.Settled.{exhaustedIn}
 use Rattle.rules.specs.Statements.Sending.{Drives, InSlot, te}
 use Rattle.rules.proofs.Sending.Beside.{answerC, seenIn, followIn, afterSlot, endedC, seenT, nextT, Holds}
 use Rattle.rules.proofs.Sending.Frames.{level-coded}
-use Rattle.rules.proofs.Steps.{Step, refusal, reset, wrote, gave, went, rested, step-of, refused-next, refused-seen, refused-tally, refused-not, accepted-next, accepted-seen, accepted-tally}
+use Rattle.rules.proofs.Steps.{Step, refusal, reset, wrote, gave, went, rested, refused-next, refused-seen, refused-tally, refused-not, accepted-next, accepted-seen, accepted-tally}
 use Rattle.rules.proofs.Sending.Bound.{Good, levelIn, Coming, drives-in, bounded-now, good-none, pick-good, ended-good, counted-good, after-good, asked-good}
 use Rattle.rules.specs.declared.Line.{Line}
 use Rattle.rules.specs.declared.Reception.{Reception}
@@ -53,7 +53,7 @@ use Rattle.rules.specs.declared.Stage.{Stage}
 use Rattle.rules.specs.declared.Stage.the-variants.{Waiting, Opening, Sending}
 use Rattle.rules.specs.declared.Service.{Service}
 use Rattle.rules.specs.declared.Role.{Role}
-use Rattle.rules.specs.declared.Role.the-variants.{Nobody, Receiver, Sender, Asker, Replier}
+use Rattle.rules.specs.declared.Role.the-variants.{Receiver, Sender, Replier}
 use Rattle.rules.specs.declared.Core.{Core}
 use Rattle.rules.specs.declared.Controller.{Controller}
 use Rattle.rules.specs.declared.Event.{Event}

@@ -1,6 +1,6 @@
 -- How a service ends, by the tally: the rules' ending is the claims' own tests.
 --   endT == the ending by these tests: ending-is in a slot, stopped-is at a host write
-use Prim.Native.Nat.{ℕ, _+_, _%_, _≤_, min}
+use Prim.Native.Nat.{ℕ, _+_, _%_, _≤_}
 use mathlib.Core.Bool.{Bool, true, false, not, false≢true}
 use mathlib.Core.List.{List, [], _∷_, _++_}
 use mathlib.Core.Path.{_≡_, refl, ap, _∙_, sym}
@@ -10,17 +10,17 @@ use lib.Dec.{ltb}
 use lib.ListN.{length}
 use Rattle.line.specs.Bits.{pick}
 use Rattle.rules.specs.Definitions.Registers.{both}
-use Rattle.rules.specs.Definitions.Mailbox.{coded, markedCher, markedChtx}
-use Rattle.rules.specs.Definitions.Attempt.{largest, levelAt, judgeSlot, advance, atStage, drivesFrame, isDriving, betweenAttempts, isBetween}
-use Rattle.rules.specs.Definitions.Service.{resting, stopped, endingOf, memoryEnded, retriesOf, reportSending, reportJudged}
+use Rattle.rules.specs.Definitions.Mailbox.{coded}
+use Rattle.rules.specs.Definitions.Attempt.{levelAt, judgeSlot, advance, atStage, betweenAttempts, isBetween}
+use Rattle.rules.specs.Definitions.Service.{resting, stopped, endingOf, retriesOf, reportSending, reportJudged}
 use Rattle.rules.specs.Definitions.Slots.{serviceJudged}
 use Rattle.rules.specs.Statements.Tally as tally
 use Rattle.rules.specs.Statements.Tally.{Stand, away, between, opening, inside, answered, Tally, goes, contended, failed, sent, answers, Answering, comes, repliedAs, verdict, spentT, judgedAs, countedIn, countedT, isAway}
 use Rattle.rules.specs.Statements.Observer.{pausing}
-use Rattle.rules.specs.Statements.Settled.{sentAll, exhaustedIn, abortedIn, endedMap, retriesT}
+use Rattle.rules.specs.Statements.Settled.{sentAll, exhaustedIn, abortedIn, retriesT}
 use Rattle.rules.proofs.Judged as judged
 use Rattle.rules.proofs.Judged.{Judged, went, lost, broke, done, slot-judged}
-use Rattle.rules.proofs.Sending.Join.{countersOf, made, serviceIn, serviceOf, kind, kind-same, stopped-made, gone-on, was-lost, has-failed, was-answered, answered-on, answered-off, spent-slot, small, last-level, drivenIn, attempting, Replies, on, off, well, JudgedIn}
+use Rattle.rules.proofs.Sending.Join.{countersOf, made, serviceIn, serviceOf, kind, kind-same, stopped-made, gone-on, was-lost, has-failed, was-answered, answered-on, spent-slot, small, last-level, drivenIn, attempting, Replies, on, off, well, JudgedIn}
 use Rattle.rules.proofs.Sending.Follow.{isExhausted}
 use Rattle.rules.specs.declared.Coded.{Coded}
 use Rattle.rules.specs.declared.Stage.{Stage}

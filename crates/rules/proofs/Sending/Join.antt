@@ -19,14 +19,14 @@ use Rattle.rules.specs.Definitions.Channels.{acknowledgeAsked, base, che
 use Rattle.rules.specs.Definitions.Mailbox.{asksReply, coded, codedBytes}
 use Rattle.rules.specs.Definitions.Reception.{free, underWay, startEnded}
 use Rattle.rules.specs.Definitions.Attempt as attempt
-use Rattle.rules.specs.Definitions.Attempt.{rtrSlot, isRequest, largest, moreSlots, moreAttempts, noCounts, atStage, inService, isServing, betweenAttempts, isBetween, waits, isWaiting, drivesFrame, isDriving, levelAt, due, openHalf, arbitrated, inCheck, inAcknowledge, differenceIn, difference, judgeSlot, slotSpent, lostSpent, errorSpent, advance, exhausted}
+use Rattle.rules.specs.Definitions.Attempt.{rtrSlot, isRequest, largest, moreSlots, moreAttempts, noCounts, atStage, inService, isServing, betweenAttempts, isBetween, waits, isWaiting, levelAt, due, openHalf, arbitrated, inCheck, inAcknowledge, differenceIn, difference, judgeSlot, slotSpent, lostSpent, errorSpent, advance, exhausted}
 use Rattle.rules.specs.Definitions.Service.{resting, stopped, endingOf, settled, chosen, choiceOf, opened, started, abortAsked, rearAsked, aborts}
 use Rattle.rules.specs.Definitions.Slots.{serviceJudged}
 use Rattle.rules.specs.Definitions.Host.{rearCommanded, serviceAsked}
 use Rattle.rules.proofs.Judged as judged
 use Rattle.rules.proofs.Judged.{Judged, went, lost, broke, done, slot-judged}
 use Rattle.rules.specs.Statements.Tally as tally
-use Rattle.rules.specs.Statements.Tally.{Stand, away, between, opening, inside, answered, Tally, none, goes, contended, failed, sent, answers, Answering, comes, taken, wasted, requestT, repliedAs, asksAcknowledge, dueLevel, verdict, spentT, judgedAs, countedIn, countedT, givenUp, endedIn, endedT, chosenT, choiceT, startIn, startT, isAway, asks, askedIn, askedT, openHalfT, arbitratedT}
+use Rattle.rules.specs.Statements.Tally.{Stand, away, between, opening, inside, answered, Tally, none, goes, contended, failed, sent, answers, Answering, comes, taken, wasted, requestT, repliedAs, asksAcknowledge, dueLevel, verdict, spentT, judgedAs, countedIn, countedT, givenUp, endedIn, endedT, chosenT, choiceT, startIn, startT, asks, askedIn, askedT, openHalfT, arbitratedT}
 use Rattle.rules.specs.declared.Choice.{Choice}
 use Rattle.rules.specs.declared.Choice.the-variants.{Nothing, Lowest}
 use Rattle.rules.specs.declared.Line.{Line}

@@ -4,7 +4,7 @@
 --   Acknowledges == what holds where the model drives an acknowledge
 --   ReceivingOver == what holds of a list of events, from a controller and a log on
 use Prim.Native.Nat.{ℕ, _+_, _*_, _/_, _%_, _≤_}
-use mathlib.Core.Bool.{Bool, true, false}
+use mathlib.Core.Bool.{true, false}
 use mathlib.Core.List.{List, [], _∷_, _++_}
 use mathlib.Core.Path.{_≡_}
 use lib.Dec.{eqb, leb}

@@ -32,7 +32,7 @@ use Rattle.line.specs.Frame.{Frame, slots}
 use Rattle.rules.specs.Definitions.Setters.{withLine}
 use Rattle.rules.specs.Definitions.Registers.{bit}
 use Rattle.rules.specs.Definitions.Run.{fresh, step, next}
-use Rattle.rules.specs.Statements.Tally.{Tally, none}
+use Rattle.rules.specs.Statements.Tally.{Tally}
 use Rattle.rules.specs.Statements.Observer.{Observer, seenO, nextO}
 use Rattle.rules.specs.declared.Controller.{Controller}
 use Rattle.rules.specs.declared.Answer.{Answer}

@@ -7,14 +7,14 @@ use Prim.Native.Nat.{ℕ, _+_, _%_}
 use mathlib.Core.Bool.{Bool, true, false, not}
 use mathlib.Core.List.{List, [], _∷_}
 use mathlib.Core.Path.{_≡_}
-use lib.Dec.{eqb, ltb, leb}
+use lib.Dec.{eqb, ltb}
 use lib.ListN.{length, getD, set}
 use Rattle.line.specs.Bits.{pick}
 use Rattle.rules.specs.Definitions.Longest.{longestOf}
 use Rattle.rules.specs.Definitions.Registers.{both, either, hasBit, lineControl, command, lineStatusAt, transmissionStatus, lastMessageStatus, lastErrorStatus, interruptStatusAt, interruptReset, BOV, CV, lineStatus, retriesByte, interruptStatus, transmitted}
 use Rattle.rules.specs.Definitions.Channels.{acknowledgeAsked}
 use Rattle.rules.specs.Definitions.Mailbox.{markedCher, markedChtx, markedChrx, resetMemory}
-use Rattle.rules.specs.Definitions.Reception.{underWay, dataCount}
+use Rattle.rules.specs.Definitions.Reception.{underWay}
 use Rattle.rules.specs.Definitions.Delivery.{memoryStored}
 use Rattle.rules.specs.Definitions.State.{isActive, isAsleep, isIdle}
 use Rattle.rules.specs.Definitions.Slots as slot-rule
