@@ -1,4 +1,4 @@
-// An attempt to send: its judgement slot by slot, and what it spends (01, Sending).
+// An attempt to send: its judgement slot by slot, and what it spends (01, Sending; 02, Req 01).
 ghost use mathlib.Core.Path.{_≡_};
 ghost use Prim.Native.Nat.{_+_, _<_};
 ghost use Rattle.rules.specs.Definitions.Attempt as rule;

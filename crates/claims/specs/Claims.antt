@@ -202,7 +202,7 @@ pub record Sending : Type 0 where
   -- for every list of events: one fixed frame of which each attempt drives an opening part, at most R + 1 errors, TE exactly at R + 1, at most
   -- (C + R + 1) × (60 + 10n) slots, by the tally's own count (SendingOver and Claim in crates/rules/specs/Statements/Sending.antt, the tally in Tally.antt, the observer
   -- that keeps it in Observer.antt). Of each event:
-  --   agrees: mode, free line, frame under way, service, counts and driven level of the controller are those of the observer, which reads nothing of the controller but its
+  --   agrees: mode, free line, start taken, frame under way, role, service, counts and driven level of the controller are those of the observer, which reads nothing of it but its
   --     memory map, the levels driven and sampled, whether an event was accepted and the longest data length
   --   fits: the frame of the service under way is a frame no longer than the controller sends
   --   driven: in an accepted slot of an attempt, the levels driven in it, that of this slot included, begin the frame's slots, or those from the eleventh on where it joined
@@ -212,7 +212,7 @@ pub record Sending : Type 0 where
   --   reply: in an accepted slot of a reply, the levels driven in it, that of this slot included, begin one frame's slots from its RTR bit on, and are at most 32 + 10n
   --   outside: with a reply under way no event changes C, errors or slots of the tally, and none raises TE
   pub kept : (es : List Event) → SendingOver fresh atReset es
-  -- closed runs with their figures for C, errors and slots: sent, exhausted, lost twice, joined, aborted
+  -- closed runs with their figures for C, errors and slots: sent, exhausted, lost twice, joined, aborted; a request answered, answered in vain, at the bound
   pub runs : rules.Runs
 
 -- ---- the marked cases (01, Marked cases), one table

@@ -1,4 +1,4 @@
-// The line driver: the level of a slot of the fixed frame, found by its place (01, Frames on the line; Sending).
+// The line driver: the level of a slot of a frame that the model sends, found by its place (01, Frames on the line; Sending).
 ghost use mathlib.Core.Path.{_≡_};
 ghost use Prim.Native.Nat.{_+_, _*_, _%_, _<_, _≤_};
 ghost use Rattle.line.specs.Frame as frame;

@@ -1,4 +1,4 @@
-// How a sending service ends, and the marks that this sets in its channel (01, Sending; 000, Retries, Rearbitrate and Abort).
+// How a sending service ends, and the marks that this sets in its channel (01, Sending; 02, Req 01; 000, Retries, Rearbitrate and Abort).
 ghost use mathlib.Core.Path.{_≡_};
 ghost use Rattle.line.specs.Bits.{pick};
 ghost use Rattle.rules.specs.Definitions.Service as rule;

@@ -1,4 +1,4 @@
-// What a sample does: judged with its effects on memory map, registers, line, frame and service (01, Receiving and Sending).
+// What a sample does: judged with its effects on memory map, registers, line, frame, service and reply (01, Receiving and Sending; 02, Req 01).
 ghost use mathlib.Core.Path.{_≡_};
 ghost use Rattle.rules.specs.Definitions.Slots as rule;
 ghost use Rattle.rules.specs.Definitions.Attempt as sending;
@@ -30,7 +30,7 @@ use rules::Role;
 use rules::Service;
 use rules::Verdict;
 
-// What the model is in the frame under way, and what a sample is: for the attempt, whose place and counts have it taken, for the line and for the reply.
+// What the model is in the frame under way; what a sample is for the attempt, the line and the reply; the attempt's place and counts after it.
 struct Judgement {
     role: Role,
     verdict: Verdict,
@@ -48,7 +48,7 @@ struct Effects {
 
 // ---- what a sample is
 
-// The model's own frame, for the line: it goes on, is another's once lost, ends in an error, or ends well.
+// The model's own frame, for the line: it goes on, is another's once lost or answered, ends in an error, or ends well.
 fn hear_own(w: Verdict) -> Hearing
     ensures { λ r. ⌜ r ≡ service_rule.hearOwn w ⌝ }
 {

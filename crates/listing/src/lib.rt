@@ -58,7 +58,7 @@ fn put_pair(room: &mut [u8], at: usize, n: usize) -> usize
     at + 2
 }
 
-// The last two.
+// The last two decimal digits.
 fn put_last(room: &mut [u8], at: usize, n: usize) -> usize
     requires { ⌜ at + 2 ≤ length (now room) ⌝ }
     ensures { λ r. ⌜ Laid (now (room .entry)) at (lastTwo n) (now (room .exit)) r ⌝ }
@@ -82,7 +82,7 @@ fn put_decimal(room: &mut [u8], at: usize, n: usize) -> usize
     put_last(room, p, n)
 }
 
-// The same, without a call of itself up to four digits.
+// The same, without recursion up to four digits.
 fn put_index(room: &mut [u8], at: usize, n: usize) -> usize
     requires { ⌜ at + 20 ≤ length (now room) ⌝ }
     ensures { λ r. ⌜ Laid (now (room .entry)) at (rule.decimal n) (now (room .exit)) r ⌝ }
@@ -109,7 +109,7 @@ fn digit(x: u16) -> u8
     55 + d
 }
 
-// The last two.
+// The last two hexadecimal digits.
 fn put_two(room: &mut [u8], at: usize, x: u16) -> usize
     requires { ⌜ at + 2 ≤ length (now room) ⌝ }
     ensures { λ r. ⌜ Laid (now (room .entry)) at (rule.twoDigits x) (now (room .exit)) r ⌝ }

@@ -1,4 +1,4 @@
-// The mailbox, and the frame that a channel sends from it (01, Receiving, Sending; 000, Mailbox).
+// The mailbox, and the frame that a channel sends or replies with from it (01, Receiving, Sending; 02, Req 01; 000, Mailbox).
 // The map is lent and changed in place. A channel number is taken modulo 14.
 ghost use mathlib.Core.Path.{_≡_};
 ghost use mathlib.Core.List.{_∷_};

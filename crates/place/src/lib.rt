@@ -1,4 +1,4 @@
-// Where in the frame the line stands, and what the model is in it (01, Receiving).
+// Where in the frame the line stands, and what the model is in it (01, Receiving; 02, Req 01).
 ghost use mathlib.Core.Path.{_≡_};
 ghost use Prim.Native.Nat.{_+_, _*_, _/_, _%_};
 ghost use Rattle.rules.specs.Definitions.Reception as rule;
@@ -105,7 +105,7 @@ pub fn reads_asked(r: Reception) -> bool
     false
 }
 
-// Byte 1 of a reply, from byte 1 of the request as far as it is heard and the bits behind it.
+// Byte 1 of a reply: the identifier bits heard, EXT 1, the RAK among the bits of the nibble under way, R/W 1, RTR 0.
 fn answering(heard: u8, bits: u8) -> u8
     ensures { λ b. ⌜ b ≡ heard / 16 * 16 + 8 + bits / 2 % 2 * 4 + 2 ⌝ }
 {

@@ -1,4 +1,4 @@
-// What a sample, the choice and the end of a service do to 0x05, 0x06, 0x07 and 0x09 (01, Receiving and Sending).
+// What a sample, the choice, the end of a service and that of a reply do to 0x05, 0x06, 0x07 and 0x09 (01, Receiving and Sending; 02, Req 01).
 ghost use mathlib.Core.Path.{_≡_};
 ghost use mathlib.Core.Bool.{true};
 ghost use Rattle.rules.specs.Definitions.Delivery as delivery;

@@ -1,4 +1,5 @@
 -- Closed runs, computed. Those from `lowest-of-many` on stand against wrong rules: each comes out otherwise under one of them at least.
+use Prim.Native.Nat.{_+_, _*_}
 use mathlib.Core.Bool.{true, false}
 use mathlib.Core.List.{[], _∷_, _++_}
 use mathlib.Core.Path.{_≡_, refl}
@@ -493,6 +494,19 @@ pub reply-taken : sees (heardBy (Write 0x19 0x3B ∷ Write 0x1B 0x1A ∷ []) (sl
 unfolding lastAnswer ran heardBy listening ones levels framed sees reads
 reply-taken = refl
 
+-- it takes no request, no data frame and no reply with EXT 0
+pub reply-not-a-request : sees (heardBy (Write 0x19 0x3B ∷ Write 0x1B 0x1A ∷ []) (slots (framed 11 []))) (0x09 ∷ 0x1B ∷ []) ≡ 0x80 ∷ 0x1A ∷ []
+unfolding lastAnswer ran heardBy listening ones levels framed sees reads
+reply-not-a-request = refl
+
+pub reply-not-data : sees (heardBy (Write 0x19 0x3B ∷ Write 0x1B 0x1A ∷ []) (slots (framed 8 []))) (0x09 ∷ 0x1B ∷ []) ≡ 0x80 ∷ 0x1A ∷ []
+unfolding lastAnswer ran heardBy listening ones levels framed sees reads
+reply-not-data = refl
+
+pub reply-not-ext-0 : sees (heardBy (Write 0x19 0x3B ∷ Write 0x1B 0x1A ∷ []) (slots (framed 2 []))) (0x09 ∷ 0x1B ∷ []) ≡ 0x80 ∷ 0x1A ∷ []
+unfolding lastAnswer ran heardBy listening ones levels framed sees reads
+reply-not-ext-0 = refl
+
 -- message types, for RNW, RTR, CHTx, CHRx of 0 to 15: sent, takes data, takes requests, takes replies, replies
 pub types-sent : types (λ b. either (transmitMessage b) (either (deferredReply b) (requestMessage b))) ≡ 1 ∷ 1 ∷ 0 ∷ 0 ∷ 0 ∷ 0 ∷ 0 ∷ 0 ∷ 0 ∷ 1 ∷ 0 ∷ 0 ∷ 1 ∷ 0 ∷ 0 ∷ 0 ∷ []
 unfolding transmitMessage deferredReply requestMessage types typesFrom bit
@@ -647,6 +661,20 @@ pub unanswered : sees (heardBy (Write 0x19 0x3B ∷ Write 0x01 0x23 ∷ []) (slo
 unfolding lastAnswer ran heardBy listening ones levels framed sees reads
 unanswered = refl
 
+-- a request is chosen; with CHER 1 it is not, and channel 1, a link to it, is
+pub request-offered : sees (offered 0x3B 0x08) (0x04 ∷ 0x05 ∷ []) ≡ 0x02 ∷ 0x00 ∷ []
+unfolding lastAnswer ran offered sees reads
+request-offered = refl
+
+pub request-in-error : sees (offered 0x3B 0x0C) (0x04 ∷ 0x05 ∷ []) ≡ 0x02 ∷ 0x01 ∷ []
+unfolding lastAnswer ran offered sees reads
+request-in-error = refl
+
+-- a deferred reply is sent with its data
+pub deferred-with-data : sees (Write 0x10 0xF2 ∷ Write 0x11 0x3A ∷ Write 0x12 0x7E ∷ Write 0x13 0x19 ∷ Write 0xFF 0xA5 ∷ Write 0x80 0x3C ∷ Write 0x01 0x23 ∷ Write 0x03 0x10 ∷ (ones 12 ++ levels (slots (framed 10 (0xA5 ∷ 0x3C ∷ []))))) (0x09 ∷ 0x13 ∷ []) ≡ 0x88 ∷ 0x1B ∷ []
+unfolding lastAnswer ran ones levels framed sees reads
+deferred-with-data = refl
+
 -- a waiting request ends where its channel stores a reply
 pub fulfilled : sees (heardBy (Write 0x19 0x3B ∷ Write 0x01 0x23 ∷ Write 0x1F 0x00 ∷ []) (slots lower)) (0x04 ∷ 0x09 ∷ 0x18 ∷ 0x19 ∷ 0x1B ∷ []) ≡ 0x00 ∷ 0x81 ∷ 0xF2 ∷ 0x0B ∷ 0x19 ∷ []
 unfolding lastAnswer ran heardBy listening ones levels lower sees reads
@@ -679,7 +707,7 @@ pub answer-exhausts : sees (heardBy (Write 0x19 0x3B ∷ Write 0x01 0x03 ∷ Wri
 unfolding lastAnswer ran heardBy listening ones levels framed sees reads
 answer-exhausts = refl
 
--- no reply: 1,0,1,0 of a lower channel matches, while 1,0,1,1 bars nothing; CHER is 1, and a higher channel replies; EXT is 0; R/W is 0; another tag; the model's own request
+-- 1,0,1,0 of a lower channel that matches bars a reply, with CHER 1 too; 1,0,1,1 does not, nor one with another tag, with a bad link or of a higher channel
 pub reply-barred : pin (heardBy (Write 0x19 0x3A ∷ Write 0x1B 0x1A ∷ Write 0x20 0xF2 ∷ Write 0x21 0x3A ∷ Write 0x22 0x10 ∷ Write 0x23 0x18 ∷ Write 0x26 0xFF ∷ Write 0x27 0xF0 ∷ []) (take 28 (slots (framed 11 [])))) ≡ 1
 unfolding lastAnswer ran heardBy listening ones levels framed pin
 reply-barred = refl
@@ -688,6 +716,35 @@ pub reply-not-barred : pin (heardBy (Write 0x19 0x3A ∷ Write 0x1B 0x1B ∷ Wri
 unfolding lastAnswer ran heardBy listening ones levels framed pin
 reply-not-barred = refl
 
+pub reply-barred-in-error : pin (heardBy (Write 0x19 0x3A ∷ Write 0x1B 0x1E ∷ Write 0x20 0xF2 ∷ Write 0x21 0x3A ∷ Write 0x22 0x10 ∷ Write 0x23 0x18 ∷ Write 0x26 0xFF ∷ Write 0x27 0xF0 ∷ []) (take 28 (slots (framed 11 [])))) ≡ 1
+unfolding lastAnswer ran heardBy listening ones levels framed pin
+reply-barred-in-error = refl
+
+pub reply-barred-by-no-other : pin (heardBy (Write 0x19 0x2A ∷ Write 0x1B 0x1A ∷ Write 0x20 0xF2 ∷ Write 0x21 0x3A ∷ Write 0x22 0x10 ∷ Write 0x23 0x18 ∷ Write 0x26 0xFF ∷ Write 0x27 0xF0 ∷ []) (take 28 (slots (framed 11 [])))) ≡ 0
+unfolding lastAnswer ran heardBy listening ones levels framed pin
+reply-barred-by-no-other = refl
+
+pub reply-barred-by-no-link : pin (heardBy (Write 0x19 0x3A ∷ Write 0x1A 0x0E ∷ Write 0x1B 0x02 ∷ Write 0x20 0xF2 ∷ Write 0x21 0x3A ∷ Write 0x22 0x10 ∷ Write 0x23 0x18 ∷ Write 0x26 0xFF ∷ Write 0x27 0xF0 ∷ []) (take 28 (slots (framed 11 [])))) ≡ 0
+unfolding lastAnswer ran heardBy listening ones levels framed pin
+reply-barred-by-no-link = refl
+
+pub reply-barred-by-no-higher : pin (heardBy (Write 0x19 0x3A ∷ Write 0x20 0xF2 ∷ Write 0x21 0x3A ∷ Write 0x22 0x10 ∷ Write 0x23 0x1A ∷ Write 0x26 0xFF ∷ Write 0x27 0xF0 ∷ []) (take 28 (slots (framed 11 [])))) ≡ 0
+unfolding lastAnswer ran heardBy listening ones levels framed pin
+reply-barred-by-no-higher = refl
+
+-- the lowest of two repliers replies, and channel 13 does; one with CHER 1 is passed over; a bad link does not reply
+pub reply-lowest : sees (heardBy (Write 0x19 0x3A ∷ Write 0x80 0xA5 ∷ Write 0x81 0x3C ∷ Write 0x20 0xF2 ∷ Write 0x21 0x3A ∷ Write 0x22 0x10 ∷ Write 0x23 0x18 ∷ Write 0x26 0xFF ∷ Write 0x27 0xF0 ∷ []) (slots (framed 10 (0xA5 ∷ 0x3C ∷ [])))) (0x06 ∷ 0x09 ∷ 0x1B ∷ 0x23 ∷ []) ≡ 0x01 ∷ 0x88 ∷ 0x1B ∷ 0x18 ∷ []
+unfolding lastAnswer ran heardBy listening ones levels framed sees reads
+reply-lowest = refl
+
+pub reply-of-13 : pin (heardBy (Write 0x1B 0x1B ∷ Write 0x78 0xF2 ∷ Write 0x79 0x3A ∷ Write 0x7A 0x10 ∷ Write 0x7B 0x18 ∷ Write 0x7E 0xFF ∷ Write 0x7F 0xF0 ∷ []) (take 28 (slots (framed 11 [])))) ≡ 0
+unfolding lastAnswer ran heardBy listening ones levels framed pin
+reply-of-13 = refl
+
+pub reply-without-link : pin (heardBy (Write 0x19 0x3A ∷ Write 0x1A 0x0E ∷ Write 0x1B 0x00 ∷ []) (take 28 (slots (framed 11 [])))) ≡ 1
+unfolding lastAnswer ran heardBy listening ones levels framed pin
+reply-without-link = refl
+
 pub reply-in-error : pin (heardBy (Write 0x19 0x3A ∷ Write 0x1B 0x1C ∷ []) (take 28 (slots (framed 11 [])))) ≡ 1
 unfolding lastAnswer ran heardBy listening ones levels framed pin
 reply-in-error = refl
@@ -695,6 +752,11 @@ reply-in-error = refl
 pub reply-passed-over : pin (heardBy (Write 0x19 0x3A ∷ Write 0x1B 0x1C ∷ Write 0x20 0xF2 ∷ Write 0x21 0x3A ∷ Write 0x22 0x10 ∷ Write 0x23 0x18 ∷ Write 0x26 0xFF ∷ Write 0x27 0xF0 ∷ []) (take 28 (slots (framed 11 [])))) ≡ 0
 unfolding lastAnswer ran heardBy listening ones levels framed pin
 reply-passed-over = refl
+
+-- no reply where EXT is 0, where R/W is 0, where the tag does not match, in data, and to the model's own request
+pub reply-not-in-data : pin (heardBy (Write 0x19 0x3A ∷ []) (take 38 (slots (framed 8 (0x0F ∷ []))))) ≡ 1
+unfolding lastAnswer ran heardBy listening ones levels framed pin
+reply-not-in-data = refl
 
 pub reply-ext-0 : pin (heardBy (Write 0x19 0x3A ∷ []) (take 28 (slots (framed 3 [])))) ≡ 1
 unfolding lastAnswer ran heardBy listening ones levels framed pin
@@ -717,6 +779,10 @@ pub reply-as-heard : sees (heardBy (Write 0x19 0x3A ∷ Write 0x80 0xA5 ∷ Writ
 unfolding lastAnswer ran heardBy listening ones levels framed sees reads
 reply-as-heard = refl
 
+pub reply-high-bits : sees (heardBy (Write 0x19 0x3A ∷ Write 0x80 0xA5 ∷ Write 0x81 0x3C ∷ Write 0x18 0x52 ∷ Write 0x1E 0x00 ∷ []) (slots (framed 10 (0xA5 ∷ 0x3C ∷ [])))) (0x09 ∷ 0x18 ∷ 0x1B ∷ []) ≡ 0x88 ∷ 0x52 ∷ 0x1B ∷ []
+unfolding lastAnswer ran heardBy listening ones levels framed sees reads
+reply-high-bits = refl
+
 pub reply-held : sees (heardBy (Write 0x19 0x3A ∷ Write 0x80 0xA5 ∷ Write 0x81 0x3C ∷ []) (take 28 (slots (framed 10 (0xA5 ∷ 0x3C ∷ [])))) ++ (Write 0x80 0x12 ∷ levels (drop 28 (slots (framed 10 (0xA5 ∷ 0x3C ∷ [])))))) (0x09 ∷ 0x1B ∷ []) ≡ 0x88 ∷ 0x1B ∷ []
 unfolding lastAnswer ran heardBy listening ones levels framed sees reads
 reply-held = refl
@@ -730,10 +796,10 @@ pub reply-not-stored : sees (heardBy (Write 0x19 0x3A ∷ Write 0x80 0xA5 ∷ Wr
 unfolding lastAnswer ran heardBy listening ones levels framed sees reads
 reply-not-stored = refl
 
--- n in the slot bound: the longest length for a request, else the data bytes
-pub bound-of-a-request : boundOf 30 (framed 11 []) ≡ 30
-unfolding boundOf requestT framed
-bound-of-a-request = refl
+-- the slots of `longest-answer` are within the bound of a request, R = 0; n in the bound of another frame is its data bytes
+pub longest-answer-bound : leb 360 ((0 + 0 + 1) * size (boundOf 30 (framed 11 []))) ≡ true
+unfolding boundOf requestT framed size
+longest-answer-bound = refl
 
 pub bound-of-data : boundOf 30 (framed 8 (0xA5 ∷ [])) ≡ 1
 unfolding boundOf requestT framed
@@ -822,6 +888,9 @@ courses =
       cher-listens = cher-listens;
       channel-ext-0 = channel-ext-0;
       reply-taken = reply-taken;
+      reply-not-a-request = reply-not-a-request;
+      reply-not-data = reply-not-data;
+      reply-not-ext-0 = reply-not-ext-0;
       types-sent = types-sent;
       types-of-data = types-of-data;
       types-of-requests = types-of-requests;
@@ -857,6 +926,9 @@ courses =
       answer-too-long = answer-too-long;
       answer-untaken = answer-untaken;
       unanswered = unanswered;
+      request-offered = request-offered;
+      request-in-error = request-in-error;
+      deferred-with-data = deferred-with-data;
       fulfilled = fulfilled;
       reply-starts = reply-starts;
       reply-not-sooner = reply-not-sooner;
@@ -866,17 +938,26 @@ courses =
       answer-exhausts = answer-exhausts;
       reply-barred = reply-barred;
       reply-not-barred = reply-not-barred;
+      reply-barred-in-error = reply-barred-in-error;
+      reply-barred-by-no-other = reply-barred-by-no-other;
+      reply-barred-by-no-link = reply-barred-by-no-link;
+      reply-barred-by-no-higher = reply-barred-by-no-higher;
+      reply-lowest = reply-lowest;
+      reply-of-13 = reply-of-13;
+      reply-without-link = reply-without-link;
       reply-in-error = reply-in-error;
       reply-passed-over = reply-passed-over;
+      reply-not-in-data = reply-not-in-data;
       reply-ext-0 = reply-ext-0;
       reply-rw-0 = reply-rw-0;
       reply-unmatched = reply-unmatched;
       reply-not-to-itself = reply-not-to-itself;
       reply-as-heard = reply-as-heard;
+      reply-high-bits = reply-high-bits;
       reply-held = reply-held;
       reply-ends = reply-ends;
       reply-not-stored = reply-not-stored;
-      bound-of-a-request = bound-of-a-request;
+      longest-answer-bound = longest-answer-bound;
       bound-of-data = bound-of-data;
       bound-of-a-deferred-reply = bound-of-a-deferred-reply;
     }

@@ -1,21 +1,32 @@
 -- What the model is in the frame under way, from its attempt and the frame; and what a sample then is.
 use Prim.Native.Nat.{ℕ}
-use mathlib.Core.Bool.{Bool, true, false}
-use mathlib.Core.Path.{_≡_}
+use mathlib.Core.Bool.{Bool, true, false, false≢true}
+use mathlib.Core.Path.{_≡_, refl, sym}
 use Rattle.line.specs.Bits.{pick}
 use Rattle.line.proofs.Laws.{picked}
-use Rattle.rules.specs.Definitions.Reception.{underWay}
+use Rattle.rules.specs.Definitions.Reception.{isUnderWay, underWay}
 use Rattle.rules.specs.Definitions.Hearing.{hearFrame, hearQuiet}
 use Rattle.rules.specs.Definitions.Attempt.{drivesFrame, isAnswered}
 use Rattle.rules.specs.Definitions.Service.{roleOf, judgeReply, hearOwn}
 use Rattle.rules.specs.Definitions.Longest.{longestOf}
 use Rattle.rules.specs.Definitions.Slots.{heardAs, heard}
+use Rattle.rules.specs.declared.Phase.{Phase}
+use Rattle.rules.specs.declared.Phase.the-variants.{Quiet, Start, Body, Acknowledge, End}
 use Rattle.rules.specs.declared.Place.{Place}
 use Rattle.rules.specs.declared.Progress.{Progress}
 use Rattle.rules.specs.declared.Verdict.{Verdict}
 use Rattle.rules.specs.declared.Role.{Role}
 use Rattle.rules.specs.declared.Role.the-variants.{Nobody, Receiver, Sender, Asker, Replier}
 use Rattle.rules.specs.declared.Core.{Core}
+
+-- no frame is under way
+pub quiet-phase : (p : Phase) → isUnderWay p ≡ false → p ≡ Quiet
+unfolding isUnderWay
+quiet-phase Quiet e = refl
+quiet-phase Start e = absurd (false≢true (sym e))
+quiet-phase Body e = absurd (false≢true (sym e))
+quiet-phase Acknowledge e = absurd (false≢true (sym e))
+quiet-phase End e = absurd (false≢true (sym e))
 
 -- what the role tells of service, reply and frame
 pub data RoleIs (p : Progress) (replies : Bool) (here : Place) : Role → Type 0 where

@@ -1,4 +1,4 @@
-// A slot of the controller over a lent memory map: the sample is judged with its effects; then a waiting idle, the choice, the start, the answer (01, Receiving and Sending).
+// A slot of the controller over a lent memory map: the sample is judged with its effects; then a waiting idle, the choice, the start, the answer (01, Receiving and Sending; 02, Req 01).
 ghost use mathlib.Core.Path.{_≡_};
 ghost use lib.ListN.{getD};
 ghost use Rattle.rules.specs.Definitions.Registers as registers_rule;

@@ -52,7 +52,7 @@ pub fn between_attempts(p: Progress) -> bool
         Stage::Waiting => true,
         Stage::Opening => true, // not sampled yet
         Stage::Sending => false, // in an attempt
-        Stage::Receiving => false, // so is an answered one
+        Stage::Receiving => false, // in an answered attempt
     }
 }
 

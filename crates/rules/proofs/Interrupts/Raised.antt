@@ -15,7 +15,7 @@ use Rattle.rules.specs.Definitions.Longest.{longestOf}
 use Rattle.rules.specs.Definitions.Registers.{both, hasBit, command, interruptEnable, interruptReset, asksReset, asksIdle, asksActivation, cleared, resetReport}
 use Rattle.rules.specs.Definitions.Channels.{acknowledgeAsked}
 use Rattle.rules.specs.Statements.Bits.{bitAt}
-use Rattle.rules.specs.Definitions.Reception.{underWay, isUnderWay, unsettled}
+use Rattle.rules.specs.Definitions.Reception.{underWay, unsettled}
 use Rattle.rules.specs.Definitions.Hearing.{hearIn, hearFrame}
 use Rattle.rules.specs.Definitions.Delivery.{delivered, deliveryTo, deliveryOf}
 use Rattle.rules.specs.Definitions.Attempt.{largest, moreAttempts, atStage, betweenAttempts, isBetween, isAnswered, isAnswering, slotSpent, lostSpent, errorSpent, advance, exhausted}
@@ -38,15 +38,15 @@ use Rattle.rules.proofs.Steps as steps
 use Rattle.rules.proofs.Steps.{Step, step-of, refused-next, refused-not, accepted-next}
 use Rattle.rules.specs.Statements.OwnFrames.{verdictIn, replyIn}
 use Rattle.rules.specs.Statements.Settled.{isSpoiled}
-use Rattle.rules.proofs.Roles.{RoleIs, sends, asks, replying, receives, rests, role-is}
+use Rattle.rules.proofs.Sending.Demand3.{never-fulfils}
+use Rattle.rules.proofs.Roles.{quiet-phase, RoleIs, sends, asks, replying, receives, rests, role-is}
 use Rattle.rules.proofs.OwnFrames.Steady.{effort-asked}
 use Rattle.rules.proofs.OwnFrames.EveryRun.{slot-sampled}
 use Rattle.rules.specs.Statements.Interrupts.{flagsOf, Sampled, ownFrame, Received, hearingIn, fitting, rak, Resets, by-pin, by-command, Exhausts, exhausts, LastError, last, Completes, completes, replied, Spoils, fault, overflow, broken, Stores, stores, Raised, Interrupts}
 use Rattle.rules.proofs.Interrupts.Line as line
 use Rattle.rules.specs.declared.Flags.{Flags}
 use Rattle.rules.specs.declared.Report.{Report}
-use Rattle.rules.specs.declared.Phase.{Phase}
-use Rattle.rules.specs.declared.Phase.the-variants.{Quiet, Start, Body, Acknowledge, End}
+use Rattle.rules.specs.declared.Phase.the-variants.{Quiet}
 use Rattle.rules.specs.declared.Reception.{Reception}
 use Rattle.rules.specs.declared.Hearing.{Hearing}
 use Rattle.rules.specs.declared.Hearing.the-variants.{Silent, Follows, Fault, Good}
@@ -295,13 +295,6 @@ asks-between p e = go (p .stage) e
     go Sending e = absurd (false≢true (unfold isAnswering in e))
     go Receiving e = unfold isBetween in refl
 
-inside-fulfils : (d : Delivery) (r : Reception) (s : Service) → betweenAttempts (s .effort .progress) ≡ false → fulfils d r s ≡ false
-unfolding fulfils
-inside-fulfils Nothing r s e = refl
-inside-fulfils Stored r s e = rw e
-inside-fulfils Overflowed r s e = refl
-inside-fulfils Spoiled r s e = refl
-
 judged-fulfils : (k : Core) (v : ℕ) (h : Hearing) → isJudged (verdict k v) ≡ true → fulfils (delivers (roleIn k) h (k .reception)) (k .reception) (k .service) ≡ false
 unfolding verdict
 judged-fulfils k v h n = go (role-is (k .service .effort .progress) (k .reply .going) (k .reception .place)) n
@@ -309,7 +302,7 @@ judged-fulfils k v h n = go (role-is (k .service .effort .progress) (k .reply .g
     go : {x : Role} → RoleIs (k .service .effort .progress) (k .reply .going) (k .reception .place) x → isJudged (verdictAs x k v) ≡ true
         → fulfils (delivers x h (k .reception)) (k .reception) (k .service) ≡ false
     go (sends d) n = unfold delivers fulfils in refl
-    go (asks d a) n = unfold delivers in inside-fulfils (deliveryOf h (k .reception)) (k .reception) (k .service) (asks-between (k .service .effort .progress) a)
+    go (asks d a) n = unfold delivers in never-fulfils (deliveryOf h (k .reception)) (k .reception) (k .service) (asks-between (k .service .effort .progress) a)
     go (replying d a y) n = absurd (false≢true (unfold verdictAs isJudged in n))
     go (receives d a y u) n = absurd (false≢true (unfold verdictAs isJudged in n))
     go (rests d a y u) n = absurd (false≢true (unfold verdictAs isJudged in n))
@@ -516,14 +509,6 @@ module _ (c : Controller) (f : Fine c) where
 silent-nothing : (r : Reception) → deliveryOf Silent r ≡ Nothing
 unfolding deliveryOf deliveryTo
 silent-nothing r = pick-same (r .winner .matched) Nothing
-
-quiet-phase : (p : Phase) → isUnderWay p ≡ false → p ≡ Quiet
-unfolding isUnderWay
-quiet-phase Quiet e = refl
-quiet-phase Start e = not-at-reset (sym e)
-quiet-phase Body e = not-at-reset (sym e)
-quiet-phase Acknowledge e = not-at-reset (sym e)
-quiet-phase End e = not-at-reset (sym e)
 
 nobody-nothing : (h : Hearing) (r : Reception) → delivers Nobody h r ≡ Nothing
 unfolding delivers

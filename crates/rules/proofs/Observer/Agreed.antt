@@ -28,7 +28,7 @@ use Rattle.rules.specs.Statements.Observer as observer
 use Rattle.rules.specs.Statements.Observer.{Past, recessive, freeO, startsO, anew, Replying, silent, replies, Observer, withActivityO, withLineO, withFrameO, withTallyO, withReplyO, atReset, codeT, hearsOwn, hearsOther, hearsApart, hearsIn, hearsO, answerIn, answerO, fulfilledT, fulfilledO, isReplying, replyIn, lineO, sampledO, idleO, goesOnO, activatedO, idleAskedO, commandedO, writtenO, nextO}
 use Rattle.rules.specs.Statements.Sending.{levelApart, levelIn, levelO, roleApart, roleAs, Counted, Agrees}
 use Rattle.rules.proofs.Logic.{left}
-use Rattle.rules.proofs.Roles.{role-sender, role-asker, role-other, heard-nobody, heard-receiver, heard-sender, heard-asker, heard-replier}
+use Rattle.rules.proofs.Roles.{quiet-phase, role-sender, role-asker, role-other, heard-nobody, heard-receiver, heard-sender, heard-asker, heard-replier}
 use Rattle.rules.proofs.Steps.{Step, refusal, reset, wrote, gave, went, rested, step-of, refused-next, refused-not, accepted-next, accepted-so, accepted-tally}
 use Rattle.rules.proofs.Sending.Beside as beside
 use Rattle.rules.proofs.Sending.Beside.{answerC, afterSlot, endedC, nextT}
@@ -40,7 +40,7 @@ use Rattle.rules.proofs.Sending.Demand3.{Joined, joined-fresh, joined-n
 use Rattle.rules.proofs.Ranges.Limits.{Fine}
 use Rattle.rules.proofs.Ranges.Reception.{Received, judged-received}
 use Rattle.rules.proofs.Ranges.Reach.{fine-next}
-use Rattle.rules.proofs.Observer.Replies.{own-heard, SameReply, no-reply, same-going, quiet-phase, is-going, is-replier, reply-drives, reply-level, reply-judged, apart-reply, own-reply, asked-reply}
+use Rattle.rules.proofs.Observer.Replies.{own-heard, SameReply, no-reply, same-going, is-going, is-replier, reply-drives, reply-level, reply-judged, apart-reply, own-reply, asked-reply}
 use Rattle.rules.proofs.Samples.{sample-small}
 use Rattle.rules.specs.declared.Line.{Line}
 use Rattle.rules.specs.declared.Reception.{Reception}

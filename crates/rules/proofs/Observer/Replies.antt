@@ -2,7 +2,7 @@
 --   replyOf == the reply that the observer's stands for        ReplyFits == its frame fits        SameReply == both
 --   own-heard == what a sample is for a frame of the model's own        repliedOf == how a sample ends the reply
 use Prim.Native.Nat.{ℕ, _+_, _*_, _<_}
-use mathlib.Core.Bool.{Bool, true, false, false≢true}
+use mathlib.Core.Bool.{Bool, true, false}
 use mathlib.Core.List.{List, [], _∷_, _++_}
 use mathlib.Core.Path.{_≡_, refl, ap, _∙_, sym, subst}
 use native.Mathlib.Omega.{arith}
@@ -17,7 +17,7 @@ use Rattle.rules.specs.Definitions.Longest.{capacity, longestOf}
 use Rattle.rules.specs.Definitions.Registers.{both, CV, ACKE, FCSE}
 use Rattle.rules.specs.Definitions.Channels.{bufferOf, replierFor}
 use Rattle.rules.specs.Definitions.Mailbox.{frameWith, replyFrame, coded}
-use Rattle.rules.specs.Definitions.Reception.{atPlace, quiet, isUnderWay, underWay, isBody, inBody, commandEnded, readsAsked, replyLow, begun, followIn, followed, winnerTaken}
+use Rattle.rules.specs.Definitions.Reception.{atPlace, quiet, underWay, isBody, inBody, commandEnded, readsAsked, replyLow, begun, followIn, followed, winnerTaken}
 use Rattle.rules.specs.Definitions.Hearing.{receptionAfter}
 use Rattle.rules.specs.Definitions.Attempt.{drivesFrame, isAnswered, rtrSlot, levelAt, inCheck, inAcknowledge, differenceIn, difference, judgeSlot}
 use Rattle.rules.specs.Definitions.Service.{noReply, judgeReply, replyMoved, replied, replyBy, replyTaken, hearOwn}
@@ -29,7 +29,7 @@ use Rattle.rules.specs.Statements.Sending.{DrivesPart}
 use Rattle.rules.specs.Statements.Settled.{Replied, unended, whole, broken, repliedBy, repliedApart}
 use Rattle.rules.proofs.Logic.{left}
 use Rattle.rules.proofs.Judged.{Judged, went, lost, broke, done, answered, slot-judged}
-use Rattle.rules.proofs.Roles.{role-sender, role-asker, role-replier, role-other}
+use Rattle.rules.proofs.Roles.{quiet-phase, role-sender, role-asker, role-replier, role-other}
 use Rattle.rules.proofs.Ranges.Bytes.{at-below, data-small, fits-with}
 use Rattle.rules.proofs.Sending.Join.{kind, open-same, arbitrated-same, due-same, request-same, kind-same}
 use Rattle.rules.proofs.Sending.Frames.{level-coded}
@@ -37,8 +37,7 @@ use Rattle.rules.proofs.Sending.Bound as bound
 use Rattle.rules.proofs.Sending.Bound.{Verdicts, on, one-more, opens-on, verdict-of}
 use Rattle.rules.specs.declared.Choice.{Choice}
 use Rattle.rules.specs.declared.Choice.the-variants.{Nothing, Lowest}
-use Rattle.rules.specs.declared.Phase.{Phase}
-use Rattle.rules.specs.declared.Phase.the-variants.{Quiet, Start, Body, Acknowledge, End}
+use Rattle.rules.specs.declared.Phase.the-variants.{Quiet}
 use Rattle.rules.specs.declared.Reception.{Reception}
 use Rattle.rules.specs.declared.Hearing.{Hearing}
 use Rattle.rules.specs.declared.Hearing.the-variants.{Silent, Follows, Fault, Good}
@@ -149,14 +148,6 @@ unfolding replyLow
 low-small r b = let h = at-below b 1 in omega arith
 
 -- ---- no frame was under way: none has reached its R/W slot
-
-pub quiet-phase : (p : Phase) → isUnderWay p ≡ false → p ≡ Quiet
-unfolding isUnderWay
-quiet-phase Quiet e = refl
-quiet-phase Start e = absurd (false≢true (sym e))
-quiet-phase Body e = absurd (false≢true (sym e))
-quiet-phase Acknowledge e = absurd (false≢true (sym e))
-quiet-phase End e = absurd (false≢true (sym e))
 
 module _ (r : Reception) (v : ℕ) (u : underWay (r .place) ≡ false) where
   quiet-place : r .place .phase ≡ Quiet

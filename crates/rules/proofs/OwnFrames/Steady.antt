@@ -63,7 +63,7 @@ resting-still : stopped resting ≡ Going
 unfolding stopped resting betweenAttempts isBetween atStage
 resting-still = refl
 
-stopped-settled : (s : Service) → stopped (settled (stopped s) s) ≡ Going
+pub stopped-settled : (s : Service) → stopped (settled (stopped s) s) ≡ Going
 stopped-settled s = go (stopped s) refl
   where
     go : (x : Ending) → stopped s ≡ x → stopped (settled x s) ≡ Going
@@ -121,7 +121,7 @@ waits-between p e = go (p .stage) e
     go Sending e = absurd (false≢true (unfold isWaiting in e))
     go Receiving e = absurd (false≢true (unfold isWaiting in e))
 
-opened-still : (s : Service) (k : ℕ) → waits (s .effort .progress) ≡ true → stopped (opened s k) ≡ stopped s
+pub opened-still : (s : Service) (k : ℕ) → waits (s .effort .progress) ≡ true → stopped (opened s k) ≡ stopped s
 unfolding opened stopped exhausted
 opened-still s k e = rw (waits-between (s .effort .progress) e) (unfold betweenAttempts isBetween atStage in refl)
 
@@ -432,7 +432,7 @@ written-leaves f k a v p q l c =
 pub written-reply : (k : Core) (a v : ℕ) → coreWritten k a v .reply ≡ k .reply
 written-reply k a v = written-leaves (λ x. x .reply) k a v (λ x. refl) (λ x. refl) (λ x. refl) (unfold flagsCleared in refl)
 
-written-reception : (k : Core) (a v : ℕ) → coreWritten k a v .reception ≡ k .reception
+pub written-reception : (k : Core) (a v : ℕ) → coreWritten k a v .reception ≡ k .reception
 written-reception k a v = written-leaves (λ x. x .reception) k a v (λ x. refl) (λ x. refl) (λ x. refl) (unfold flagsCleared in refl)
 
 byte-steady : (c : Controller) (a v : ℕ) → Steady (c .core) → Steady (byteWritten c a v .core)

@@ -28,7 +28,8 @@ use Rattle.rules.specs.Definitions.Slots.{roleIn, replyVerdict, heardAs,
 use Rattle.rules.specs.Statements.Receiving.{Log, noLog, sampledLog}
 use Rattle.rules.proofs.Logic.{both-true}
 use Rattle.rules.proofs.Ranges.Bytes.{at-below, fits-reply}
-use Rattle.rules.proofs.Roles.{role-sender, role-asker, role-replier, role-other}
+use Rattle.rules.proofs.Roles.{quiet-phase, role-sender, role-asker, role-replier, role-other}
+use Rattle.rules.proofs.OwnFrames.Steady.{stopped-settled}
 use Rattle.rules.proofs.Receiving.OwnAttempt.{Own, Placed, due-level, inStart, inCode, level-start, lost-follows, own-follows, own-small, placed-judged, placed-next}
 use Rattle.rules.proofs.Judged as judged
 use Rattle.rules.proofs.Judged.{Judged, went, lost, broke, done, slot-judged}
@@ -169,18 +170,6 @@ resting-going = refl
 pub resting-away : Away (resting .effort .progress)
 resting-away = record { drives = unfold resting atStage drivesFrame isDriving in refl; answers = unfold resting atStage isAnswered isAnswering in refl }
 
-settled-as : (s : Service) (x : Ending) → stopped s ≡ x → stopped (settled x s) ≡ Going
-unfolding settled
-settled-as s Going e = e
-settled-as s Sent e = resting-going
-settled-as s Exhausted e = resting-going
-settled-as s Aborted e = resting-going
-settled-as s Rearbitrated e = resting-going
-settled-as s Fulfilled e = resting-going
-
-pub settled-going : (s : Service) → stopped (settled (stopped s) s) ≡ Going
-settled-going s = settled-as s (stopped s) refl
-
 settled-away : (x : Ending) (s : Service) → Away (s .effort .progress) → Away (settled x s .effort .progress)
 unfolding settled
 settled-away Going s d = d
@@ -196,12 +185,12 @@ settledBy b w s = settled (pick b Fulfilled (endingOf w (serviceJudged w s))) (s
 
 after-going : (w : Verdict) (s : Service) → stopped (settled (endingOf w (serviceJudged w s)) (serviceJudged w s)) ≡ Going
 unfolding endingOf
-after-going Unjudged s = settled-going (serviceJudged Unjudged s)
-after-going Goes s = settled-going (serviceJudged Goes s)
-after-going Lost s = settled-going (serviceJudged Lost s)
-after-going (Failed code) s = settled-going (serviceJudged (Failed code) s)
+after-going Unjudged s = stopped-settled (serviceJudged Unjudged s)
+after-going Goes s = stopped-settled (serviceJudged Goes s)
+after-going Lost s = stopped-settled (serviceJudged Lost s)
+after-going (Failed code) s = stopped-settled (serviceJudged (Failed code) s)
 after-going Done s = unfold settled in resting-going
-after-going Answered s = settled-going (serviceJudged Answered s)
+after-going Answered s = stopped-settled (serviceJudged Answered s)
 
 by-going : (b : Bool) (w : Verdict) (s : Service) → stopped (settledBy b w s) ≡ Going
 unfolding settledBy
@@ -233,14 +222,6 @@ unfolding serviceJudged advance
 done-away s = waiting-away
 
 -- ---- the frame under way
-
-pub underway-quiet : (p : Phase) → isUnderWay p ≡ false → p ≡ Quiet
-unfolding isUnderWay
-underway-quiet Quiet e = refl
-underway-quiet Start e = absurd (false≢true (sym e))
-underway-quiet Body e = absurd (false≢true (sym e))
-underway-quiet Acknowledge e = absurd (false≢true (sym e))
-underway-quiet End e = absurd (false≢true (sym e))
 
 follow-later : (p : Phase) (r : Reception) (v : ℕ) → r .place .phase ≡ p → isUnderWay p ≡ true → 1 ≤ r .nibbles → Later (followIn p r v)
 unfolding followIn followStart followBody followAcknowledge followEnd moved entered bitTaken nibbleTaken dataEnded bitsLaid moreNibbles atPlace isUnderWay underWay
@@ -391,7 +372,7 @@ module _ (longest : ℕ) (s : Service) (y : ImmediateReply) (r : Reception) (l :
   begun-judged : underWay (r .place) ≡ false → then Follows ≡ begun
   unfolding receptionJudged receptionAfter followed
   begun-judged u =
-      let e : followIn (r .place .phase) r v ≡ begun = rw (underway-quiet (r .place .phase) (unfold underWay in u)) (unfold followIn in refl) in
+      let e : followIn (r .place .phase) r v ≡ begun = rw (quiet-phase (r .place .phase) (unfold underWay in u)) (unfold followIn in refl) in
       rw e (unfold commandEnded behind inBody isBody begun quiet atPlace in refl)
 
   -- no frame was under way, and a 0 begins one

@@ -11,17 +11,17 @@ use lib.ListN.{getD}
 use Rattle.line.specs.Bits.{pick, Below}
 use Rattle.line.specs.Frame.{Fits}
 use Rattle.line.proofs.Laws.{picked}
-use Rattle.rules.specs.Definitions.Setters.{withActivity, withReport, withService}
+use Rattle.rules.specs.Definitions.Setters.{withReport, withService}
 use Rattle.rules.specs.Definitions.Longest.{capacity, longestOf}
-use Rattle.rules.specs.Definitions.Registers.{both, command, interruptReset, transmitControl, retrySetting, autonomous, asksIdle, asksActivation}
+use Rattle.rules.specs.Definitions.Registers.{both, transmitControl, retrySetting, autonomous}
 use Rattle.rules.specs.Definitions.Channels.{lowestReady}
 use Rattle.rules.specs.Definitions.Reception.{atPlace, quiet, isUnderWay, underWay, behind, inBody, isBody, free, startEnded}
 use Rattle.rules.proofs.Receiving.InvariantLaws.{invariant-under-way}
 use Rattle.rules.specs.Definitions.Attempt.{atStage, betweenAttempts, isBetween, drivesFrame, isDriving, noCounts, inService, isServing, waits, isWaiting, exhausted, isAnswered, isAnswering}
 use Rattle.rules.specs.Definitions.Service.{resting, stopped, settled, reportSending, reportEnded, chosen, choiceOf, choose, opened, started, noReply, fulfils}
-use Rattle.rules.specs.Definitions.State.{isActive, inMode, serving, resetCore, idled, idleDue, slept, idleAsked, activated}
+use Rattle.rules.specs.Definitions.State.{isActive, serving, resetCore, idled, idleDue, slept}
 use Rattle.rules.specs.Definitions.Slots.{heard, ending, memoryJudged, coreJudged, chooses, choiceMade, startMade, followsOn, sampleOf, judgedSlot, sampledSlot, activeSlot, roleIn, replyVerdict, heardAs, delivers, verdictAs, verdict}
-use Rattle.rules.specs.Definitions.Host.{resetAll, resets, sleeps, modeCommanded, flagsCleared, coreWritten, serviceAsked, stoppedCore, byteWritten, hostWritten}
+use Rattle.rules.specs.Definitions.Host.{resetAll, resets, sleeps, coreWritten, serviceAsked, stoppedCore, byteWritten, hostWritten}
 use Rattle.rules.specs.Definitions.Run.{accept, restedSlot, step, next}
 use Rattle.rules.specs.Definitions.Run as run
 use Rattle.rules.specs.Statements.Tally.{Stand, away, between, opening, inside, Tally, isAway, answered}
@@ -31,10 +31,10 @@ use Rattle.rules.proofs.Steps.{Step, refusal, reset, wrote, gave, went,
 use Rattle.rules.proofs.Sending.Demand3.{Joined}
 use Rattle.rules.proofs.Samples.{sample-small}
 use Rattle.rules.proofs.Roles.{role-sender}
-use Rattle.rules.proofs.OwnFrames.Steady.{effort-asked, written-reply}
+use Rattle.rules.proofs.OwnFrames.Steady.{stopped-settled, opened-still, effort-asked, written-reply, written-reception}
 use Rattle.rules.specs.Statements.Receiving.{Log, noLog, sampledLog, logIn, logNext}
 use Rattle.rules.proofs.Receiving.OwnAttempt.{Own, Placed, inCode}
-use Rattle.rules.proofs.Receiving.Log.{At, Stands, apart, closing, driving, receiving, resting-going, sampled-stands, settled-going, starting, Away, asking, replying, replied, resting-away, placed-later, body-is, settledBy}
+use Rattle.rules.proofs.Receiving.Log.{At, Stands, apart, closing, driving, receiving, resting-going, sampled-stands, starting, Away, asking, replying, replied, resting-away, placed-later, body-is, settledBy}
 use Rattle.rules.specs.declared.Report.{Report}
 use Rattle.rules.specs.declared.Choice.{Choice}
 use Rattle.rules.specs.declared.Choice.the-variants.{Nothing, Lowest}
@@ -52,7 +52,6 @@ use Rattle.rules.specs.declared.Effort.{Effort}
 use Rattle.rules.specs.declared.Service.{Service}
 use Rattle.rules.specs.declared.Ending.{Ending}
 use Rattle.rules.specs.declared.Ending.the-variants.{Going, Sent, Exhausted, Aborted, Rearbitrated, Fulfilled}
-use Rattle.rules.specs.declared.Mode.the-variants.{Active}
 use Rattle.rules.specs.declared.Core.{Core}
 use Rattle.rules.specs.declared.Controller.{Controller}
 use Rattle.rules.specs.declared.Event.{Event}
@@ -146,14 +145,6 @@ choice-stands l m k a =
 
 -- ---- the start
 
-waits-between : (p : Stage) → isWaiting p ≡ true → isBetween p ≡ true
-unfolding isWaiting isBetween
-waits-between Resting e = absurd (false≢true e)
-waits-between Waiting e = refl
-waits-between Opening e = absurd (false≢true e)
-waits-between Sending e = absurd (false≢true e)
-waits-between stage.Receiving e = absurd (false≢true e)
-
 waits-apart : (p : Stage) → isWaiting p ≡ true → isDriving p ≡ true → ⊥
 unfolding isWaiting isDriving
 waits-apart Resting e d = absurd (false≢true e)
@@ -169,10 +160,6 @@ waits-asks Waiting e d = absurd (false≢true d)
 waits-asks Opening e d = absurd (false≢true e)
 waits-asks Sending e d = absurd (false≢true e)
 waits-asks stage.Receiving e d = absurd (false≢true e)
-
-opened-going : (s : Service) (at : ℕ) → waits (s .effort .progress) ≡ true → stopped (opened s at) ≡ stopped s
-unfolding stopped opened atStage betweenAttempts exhausted waits
-opened-going s at e = rw (waits-between (s .effort .progress .stage) e) (unfold isBetween in refl)
 
 -- a clean start sequence has just ended
 pub record StartTaken (r : Reception) : Type 0 where
@@ -199,7 +186,7 @@ later-start r e h = omega (arith, start-taken r e .nibbles)
 
 module _ {longest : ℕ} (l : Log) (s : Service) (y : ImmediateReply) (r : Reception) (a : Stands longest s y r l) (w : waits (s .effort .progress) ≡ true) where
   joins : startEnded r ≡ true → Stands longest (opened s 10) y r l
-  joins e = record { going = opened-going s 10 w ∙ a .going; stage = go (a .stage) }
+  joins e = record { going = opened-still s 10 w ∙ a .going; stage = go (a .stage) }
     where
       placed : Placed (s .effort .frame) 10 r
       placed = let t = start-taken r e in inCode (t .phase) (omega (arith, t .nibbles, t .at)) (omega (arith, t .at)) (λ d. absurd (omega (arith, t .at)))
@@ -221,7 +208,7 @@ module _ {longest : ℕ} (l : Log) (s : Service) (y : ImmediateReply) (r : Recep
       go (replied d g k h) = absurd (later-start r e (k .nibbles))
 
   opens : underWay (r .place) ≡ false → Stands longest (opened s 0) y r l
-  opens u = record { going = opened-going s 0 w ∙ a .going; stage = unfold opened atStage in starting (unfold drivesFrame isDriving in refl) (quiet-reply (a .stage) u) refl u }
+  opens u = record { going = opened-still s 0 w ∙ a .going; stage = unfold opened atStage in starting (unfold drivesFrame isDriving in refl) (quiet-reply (a .stage) u) refl u }
 
 started-stands : {longest : ℕ} (l : Log) (s : Service) (y : ImmediateReply) (autonomous : Bool) (line : Line) (r : Reception) → Stands longest s y r l → Stands longest (started s autonomous line r) y r l
 unfolding started
@@ -286,22 +273,11 @@ settled-at s a Aborted e = given-up a (ends-between s Aborted e (unfold isGoing 
 settled-at s a Rearbitrated e = given-up a (ends-between s Rearbitrated e (unfold isGoing in refl))
 settled-at s a Fulfilled e = given-up a (ends-between s Fulfilled e (unfold isGoing in refl))
 
-pub written-reception : (k : Core) (a v : ℕ) → coreWritten k a v .reception ≡ k .reception
-unfolding coreWritten modeCommanded idleAsked activated
-written-reception k a v =
-    picked P (eqb a command) _ _
-    (λ e. picked P (asksIdle v) _ _ (λ d. picked P (isActive (k .activity .mode)) (withActivity k (inMode Active true)) k (λ i. refl) (λ i. refl))
-    (λ d. picked P (asksActivation v) _ k (λ i. picked P (isActive (k .activity .mode)) (withActivity k (inMode Active false)) _ (λ j. refl) (λ j. refl)) (λ i. refl)))
-    (λ e. picked P (eqb a interruptReset) (flagsCleared k v) k (λ d. unfold flagsCleared in refl) (λ d. refl))
-  where
-    P : Core → Type 0
-    P x = x .reception ≡ k .reception
-
 stopped-stands : (l : Log) (k : Core) (s : Service) → At (longestOf k) (s .effort) (k .reply) (k .reception) l → StandsIn l (stoppedCore k s)
 unfolding stoppedCore
 stopped-stands l k s a =
     idle-stands l (withService (withReport k (reportEnded (stopped s) (k .report) s)) (settled (stopped s) s))
-    (record { going = settled-going s; stage = settled-at s a (stopped s) refl })
+    (record { going = stopped-settled s; stage = settled-at s a (stopped s) refl })
 
 byte-stands : (l : Log) (c : Controller) (a v : ℕ) → StandsIn l (c .core) → StandsIn l (byteWritten c a v .core)
 unfolding byteWritten

@@ -164,7 +164,7 @@ judged-in (answered start n) t k v e =
 
 -- ---- a waiting request that is fulfilled
 
-never-fulfils : (d : Delivery) (r : Reception) (s : Service) → betweenAttempts (s .effort .progress) ≡ false → fulfils d r s ≡ false
+pub never-fulfils : (d : Delivery) (r : Reception) (s : Service) → betweenAttempts (s .effort .progress) ≡ false → fulfils d r s ≡ false
 unfolding fulfils
 never-fulfils delivery.Nothing r s e = refl
 never-fulfils delivery.Stored r s e = rw e

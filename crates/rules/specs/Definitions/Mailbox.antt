@@ -1,4 +1,4 @@
--- The mailbox and what the controller writes to the memory map (01, Receiving, Sending; 000, Mailbox).
+-- The mailbox and what the controller writes to the memory map (01, Receiving, Sending; 02, Req 01; 000, Mailbox).
 --   mailboxAt == an address in the mailbox        stored == a frame in the mailbox
 --   sentFrame, replyFrame, coded == the frame that a channel sends, or replies with, and its bytes        retagged, marked.. == what is written to a channel
 use Prim.Native.Nat.{ℕ, zero, suc, _+_, _-_, _*_, _/_, _%_}

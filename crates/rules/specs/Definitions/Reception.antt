@@ -1,4 +1,4 @@
--- The line, and the frame under way (01, Receiving; Sending, "Free line").
+-- The line, and the frame under way (01, Receiving; Sending, "Free line"; 02, Req 01).
 --   unsettled, afterGood, free, takesStart, counted == the line        quiet, underWay, startEnded, commandEnded, readsAsked == where the frame stands
 --   with.. == the frame under way with one of its fields changed        followed == the frame once a sample that is no fault is taken
 use Prim.Native.Nat.{ℕ, _+_, _-_, _*_, _/_, _%_}

@@ -236,7 +236,7 @@ unfoldable pub aborts : Service → ℕ → ℕ → Bool
 aborts s address value =
     both (inService (s .effort .progress)) (both (eqb address (base (s .channel) + 3)) (cher value))
 
--- ---- the model's own frame, for the line: it goes on, is another's once lost, ends in an error, or ends well
+-- ---- the model's own frame, for the line: it goes on, is another's once lost or answered, ends in an error, or ends well
 
 unfoldable pub hearOwn : Verdict → Hearing
 hearOwn Unjudged = Silent

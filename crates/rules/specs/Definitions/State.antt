@@ -1,4 +1,4 @@
--- The state, its modes and its ranges (01, Memory map; Numbers refused, 6).
+-- The state, its modes and its ranges (01, Memory map; Numbers refused, 6; 02, Req 01).
 --   ranges == the numbers of the state, each with its largest value        inRange == each is in its range        resetCore == the state after reset
 --   idled, idleDue, slept, idleAsked, activated == the commands IDLE, SLEEP, ACTI
 use Prim.Native.Nat.{ℕ, _-_}

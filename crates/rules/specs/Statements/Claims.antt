@@ -1,11 +1,12 @@
 -- What is claimed of the controller's rules: refusals, reset values, matching, sending, what every event leaves, receiving, closed runs.
-use Prim.Native.Nat.{ℕ, _≤_, _<_}
+use Prim.Native.Nat.{ℕ, _+_, _*_, _≤_, _<_}
 use mathlib.Core.Bool.{Bool, true, false}
 use mathlib.Core.List.{List, [], _∷_, _++_}
 use mathlib.Core.Path.{_≡_}
+use lib.Dec.{leb}
 use lib.ListN.{getD, length, take, drop, replicate}
 use Rattle.line.specs.LineCode.{lineCode}
-use Rattle.line.specs.Frame.{byteBits, slots}
+use Rattle.line.specs.Frame.{byteBits, slots, size}
 use Rattle.rules.specs.Definitions.Registers.{either, resetValues}
 use Rattle.rules.specs.Definitions.Channels.{receiveMessage, requestDetection, transmitMessage, deferredReply, requestMessage, awaitsReply, immediateReply, matches, lowest}
 use Rattle.rules.specs.Definitions.Mailbox.{resetMemory}
@@ -201,6 +202,10 @@ pub record Courses : Type 0 where
   pub cher-listens : sees (heardBy (Write 0x1B 0x1C ∷ []) (slots (framed 8 []))) (0x09 ∷ 0x1B ∷ []) ≡ 0x81 ∷ 0x1D ∷ []
   pub channel-ext-0 : sees (heardBy (Write 0x19 0x31 ∷ []) (slots (framed 8 []))) (0x09 ∷ 0x19 ∷ 0x1B ∷ []) ≡ 0x81 ∷ 0x31 ∷ 0x19 ∷ []
   pub reply-taken : sees (heardBy (Write 0x19 0x3B ∷ Write 0x1B 0x1A ∷ []) (slots (framed 10 []))) (0x09 ∷ 0x1B ∷ []) ≡ 0x81 ∷ 0x1B ∷ []
+  -- it takes no request, no data frame and no reply with EXT 0
+  pub reply-not-a-request : sees (heardBy (Write 0x19 0x3B ∷ Write 0x1B 0x1A ∷ []) (slots (framed 11 []))) (0x09 ∷ 0x1B ∷ []) ≡ 0x80 ∷ 0x1A ∷ []
+  pub reply-not-data : sees (heardBy (Write 0x19 0x3B ∷ Write 0x1B 0x1A ∷ []) (slots (framed 8 []))) (0x09 ∷ 0x1B ∷ []) ≡ 0x80 ∷ 0x1A ∷ []
+  pub reply-not-ext-0 : sees (heardBy (Write 0x19 0x3B ∷ Write 0x1B 0x1A ∷ []) (slots (framed 2 []))) (0x09 ∷ 0x1B ∷ []) ≡ 0x80 ∷ 0x1A ∷ []
   -- message types, for RNW, RTR, CHTx, CHRx of 0 to 15: sent, takes data, takes requests, takes replies, replies
   pub types-sent : types (λ b. either (transmitMessage b) (either (deferredReply b) (requestMessage b))) ≡ 1 ∷ 1 ∷ 0 ∷ 0 ∷ 0 ∷ 0 ∷ 0 ∷ 0 ∷ 0 ∷ 1 ∷ 0 ∷ 0 ∷ 1 ∷ 0 ∷ 0 ∷ 0 ∷ []
   pub types-of-data : types receiveMessage ≡ 0 ∷ 0 ∷ 0 ∷ 0 ∷ 1 ∷ 0 ∷ 1 ∷ 0 ∷ 0 ∷ 0 ∷ 0 ∷ 0 ∷ 0 ∷ 0 ∷ 0 ∷ 0 ∷ []
@@ -250,6 +255,11 @@ pub record Courses : Type 0 where
   pub answer-untaken : sees (listening ++ (Write 0x19 0x3B ∷ Write 0x01 0x23 ∷ (ones 12 ++ (levels (take 20 (slots (framed 10 (0xA5 ∷ 0x3C ∷ [])))) ++ (Write 0x1B 0x19 ∷ levels (drop 20 (slots (framed 10 (0xA5 ∷ 0x3C ∷ []))))))))) (0x05 ∷ 0x07 ∷ 0x09 ∷ 0x1B ∷ []) ≡ 0x11 ∷ 0x02 ∷ 0x80 ∷ 0x19 ∷ []
   -- a request that nobody answers is sent, without data, whatever its M_L
   pub unanswered : sees (heardBy (Write 0x19 0x3B ∷ Write 0x01 0x23 ∷ []) (slots (framed 11 []))) (0x06 ∷ 0x09 ∷ 0x1B ∷ []) ≡ 0x01 ∷ 0x88 ∷ 0x1A ∷ []
+  -- a request is chosen; with CHER 1 it is not, and channel 1, a link to it, is
+  pub request-offered : sees (offered 0x3B 0x08) (0x04 ∷ 0x05 ∷ []) ≡ 0x02 ∷ 0x00 ∷ []
+  pub request-in-error : sees (offered 0x3B 0x0C) (0x04 ∷ 0x05 ∷ []) ≡ 0x02 ∷ 0x01 ∷ []
+  -- a deferred reply is sent with its data
+  pub deferred-with-data : sees (Write 0x10 0xF2 ∷ Write 0x11 0x3A ∷ Write 0x12 0x7E ∷ Write 0x13 0x19 ∷ Write 0xFF 0xA5 ∷ Write 0x80 0x3C ∷ Write 0x01 0x23 ∷ Write 0x03 0x10 ∷ (ones 12 ++ levels (slots (framed 10 (0xA5 ∷ 0x3C ∷ []))))) (0x09 ∷ 0x13 ∷ []) ≡ 0x88 ∷ 0x1B ∷ []
   -- a waiting request ends where its channel stores a reply
   pub fulfilled : sees (heardBy (Write 0x19 0x3B ∷ Write 0x01 0x23 ∷ Write 0x1F 0x00 ∷ []) (slots lower)) (0x04 ∷ 0x09 ∷ 0x18 ∷ 0x19 ∷ 0x1B ∷ []) ≡ 0x00 ∷ 0x81 ∷ 0xF2 ∷ 0x0B ∷ 0x19 ∷ []
   -- an immediate reply begins at RTR's first half, not before; sent whole it sets TOK, CHTx and CHRx, and 0x06 has retries 0
@@ -261,22 +271,33 @@ pub record Courses : Type 0 where
   pub reply-failed : sees (heardBy (Write 0x19 0x3A ∷ Write 0x80 0xA5 ∷ Write 0x81 0x3C ∷ []) (take 31 (slots (framed 10 (0xA5 ∷ 0x3C ∷ []))) ++ (1 ∷ []))) (0x04 ∷ 0x05 ∷ 0x07 ∷ 0x09 ∷ 0x1B ∷ []) ≡ 0x00 ∷ 0x00 ∷ 0x02 ∷ 0x84 ∷ 0x1C ∷ []
   -- an answer that does not fit in the last attempt: TE, CHER and CHTx at the request's channel
   pub answer-exhausts : sees (heardBy (Write 0x19 0x3B ∷ Write 0x01 0x03 ∷ Write 0x1B 0x10 ∷ []) (slots (framed 10 (0xA5 ∷ 0x3C ∷ [])))) (0x04 ∷ 0x05 ∷ 0x06 ∷ 0x09 ∷ 0x1B ∷ []) ≡ 0x00 ∷ 0x01 ∷ 0x01 ∷ 0x94 ∷ 0x16 ∷ []
-  -- no reply: 1,0,1,0 of a lower channel matches, while 1,0,1,1 bars nothing; CHER is 1, and a higher channel replies; EXT is 0; R/W is 0; another tag; the model's own request
+  -- 1,0,1,0 of a lower channel that matches bars a reply, with CHER 1 too; 1,0,1,1 does not, nor one with another tag, with a bad link or of a higher channel
   pub reply-barred : pin (heardBy (Write 0x19 0x3A ∷ Write 0x1B 0x1A ∷ Write 0x20 0xF2 ∷ Write 0x21 0x3A ∷ Write 0x22 0x10 ∷ Write 0x23 0x18 ∷ Write 0x26 0xFF ∷ Write 0x27 0xF0 ∷ []) (take 28 (slots (framed 11 [])))) ≡ 1
   pub reply-not-barred : pin (heardBy (Write 0x19 0x3A ∷ Write 0x1B 0x1B ∷ Write 0x20 0xF2 ∷ Write 0x21 0x3A ∷ Write 0x22 0x10 ∷ Write 0x23 0x18 ∷ Write 0x26 0xFF ∷ Write 0x27 0xF0 ∷ []) (take 28 (slots (framed 11 [])))) ≡ 0
+  pub reply-barred-in-error : pin (heardBy (Write 0x19 0x3A ∷ Write 0x1B 0x1E ∷ Write 0x20 0xF2 ∷ Write 0x21 0x3A ∷ Write 0x22 0x10 ∷ Write 0x23 0x18 ∷ Write 0x26 0xFF ∷ Write 0x27 0xF0 ∷ []) (take 28 (slots (framed 11 [])))) ≡ 1
+  pub reply-barred-by-no-other : pin (heardBy (Write 0x19 0x2A ∷ Write 0x1B 0x1A ∷ Write 0x20 0xF2 ∷ Write 0x21 0x3A ∷ Write 0x22 0x10 ∷ Write 0x23 0x18 ∷ Write 0x26 0xFF ∷ Write 0x27 0xF0 ∷ []) (take 28 (slots (framed 11 [])))) ≡ 0
+  pub reply-barred-by-no-link : pin (heardBy (Write 0x19 0x3A ∷ Write 0x1A 0x0E ∷ Write 0x1B 0x02 ∷ Write 0x20 0xF2 ∷ Write 0x21 0x3A ∷ Write 0x22 0x10 ∷ Write 0x23 0x18 ∷ Write 0x26 0xFF ∷ Write 0x27 0xF0 ∷ []) (take 28 (slots (framed 11 [])))) ≡ 0
+  pub reply-barred-by-no-higher : pin (heardBy (Write 0x19 0x3A ∷ Write 0x20 0xF2 ∷ Write 0x21 0x3A ∷ Write 0x22 0x10 ∷ Write 0x23 0x1A ∷ Write 0x26 0xFF ∷ Write 0x27 0xF0 ∷ []) (take 28 (slots (framed 11 [])))) ≡ 0
+  -- the lowest of two repliers replies, and channel 13 does; one with CHER 1 is passed over; a bad link does not reply
+  pub reply-lowest : sees (heardBy (Write 0x19 0x3A ∷ Write 0x80 0xA5 ∷ Write 0x81 0x3C ∷ Write 0x20 0xF2 ∷ Write 0x21 0x3A ∷ Write 0x22 0x10 ∷ Write 0x23 0x18 ∷ Write 0x26 0xFF ∷ Write 0x27 0xF0 ∷ []) (slots (framed 10 (0xA5 ∷ 0x3C ∷ [])))) (0x06 ∷ 0x09 ∷ 0x1B ∷ 0x23 ∷ []) ≡ 0x01 ∷ 0x88 ∷ 0x1B ∷ 0x18 ∷ []
+  pub reply-of-13 : pin (heardBy (Write 0x1B 0x1B ∷ Write 0x78 0xF2 ∷ Write 0x79 0x3A ∷ Write 0x7A 0x10 ∷ Write 0x7B 0x18 ∷ Write 0x7E 0xFF ∷ Write 0x7F 0xF0 ∷ []) (take 28 (slots (framed 11 [])))) ≡ 0
+  pub reply-without-link : pin (heardBy (Write 0x19 0x3A ∷ Write 0x1A 0x0E ∷ Write 0x1B 0x00 ∷ []) (take 28 (slots (framed 11 [])))) ≡ 1
   pub reply-in-error : pin (heardBy (Write 0x19 0x3A ∷ Write 0x1B 0x1C ∷ []) (take 28 (slots (framed 11 [])))) ≡ 1
   pub reply-passed-over : pin (heardBy (Write 0x19 0x3A ∷ Write 0x1B 0x1C ∷ Write 0x20 0xF2 ∷ Write 0x21 0x3A ∷ Write 0x22 0x10 ∷ Write 0x23 0x18 ∷ Write 0x26 0xFF ∷ Write 0x27 0xF0 ∷ []) (take 28 (slots (framed 11 [])))) ≡ 0
+  -- no reply where EXT is 0, where R/W is 0, where the tag does not match, in data, and to the model's own request
+  pub reply-not-in-data : pin (heardBy (Write 0x19 0x3A ∷ []) (take 38 (slots (framed 8 (0x0F ∷ []))))) ≡ 1
   pub reply-ext-0 : pin (heardBy (Write 0x19 0x3A ∷ []) (take 28 (slots (framed 3 [])))) ≡ 1
   pub reply-rw-0 : pin (heardBy (Write 0x19 0x3A ∷ []) (take 28 (slots (framed 9 [])))) ≡ 1
   pub reply-unmatched : pin (heardBy (Write 0x19 0x2A ∷ []) (take 28 (slots (framed 11 [])))) ≡ 1
   pub reply-not-to-itself : pin (heardBy (Write 0x19 0x3B ∷ Write 0x01 0x23 ∷ Write 0x20 0xF2 ∷ Write 0x21 0x3A ∷ Write 0x22 0x10 ∷ Write 0x23 0x18 ∷ Write 0x26 0xFF ∷ Write 0x27 0xF0 ∷ []) (slots (framed 11 []))) ≡ 1
   -- its check is over the identifier and the RAK heard, and over the data bytes of the R/W slot
   pub reply-as-heard : sees (heardBy (Write 0x19 0x3A ∷ Write 0x80 0xA5 ∷ Write 0x81 0x3C ∷ Write 0x1F 0x00 ∷ []) (slots (record { identifier = 0xF20; command = 14; bytes = 0xA5 ∷ 0x3C ∷ []; acknowledge = true }))) (0x09 ∷ 0x18 ∷ 0x19 ∷ 0x1B ∷ []) ≡ 0x88 ∷ 0xF2 ∷ 0x3A ∷ 0x1B ∷ []
+  pub reply-high-bits : sees (heardBy (Write 0x19 0x3A ∷ Write 0x80 0xA5 ∷ Write 0x81 0x3C ∷ Write 0x18 0x52 ∷ Write 0x1E 0x00 ∷ []) (slots (framed 10 (0xA5 ∷ 0x3C ∷ [])))) (0x09 ∷ 0x18 ∷ 0x1B ∷ []) ≡ 0x88 ∷ 0x52 ∷ 0x1B ∷ []
   pub reply-held : sees (heardBy (Write 0x19 0x3A ∷ Write 0x80 0xA5 ∷ Write 0x81 0x3C ∷ []) (take 28 (slots (framed 10 (0xA5 ∷ 0x3C ∷ [])))) ++ (Write 0x80 0x12 ∷ levels (drop 28 (slots (framed 10 (0xA5 ∷ 0x3C ∷ [])))))) (0x09 ∷ 0x1B ∷ []) ≡ 0x88 ∷ 0x1B ∷ []
   -- after an error it is not repeated; sent whole it is stored by no channel that listens
   pub reply-ends : pin (heardBy (Write 0x19 0x3A ∷ Write 0x80 0xA5 ∷ Write 0x81 0x3C ∷ []) (take 31 (slots (framed 10 (0xA5 ∷ 0x3C ∷ []))) ++ (1 ∷ []))) ≡ 1
   pub reply-not-stored : sees (heardBy (Write 0x19 0x3A ∷ Write 0x80 0xA5 ∷ Write 0x81 0x3C ∷ Write 0x20 0xF2 ∷ Write 0x21 0x3B ∷ Write 0x22 0x10 ∷ Write 0x23 0x1A ∷ Write 0x26 0xFF ∷ Write 0x27 0xF0 ∷ []) (slots (framed 10 (0xA5 ∷ 0x3C ∷ [])))) (0x09 ∷ 0x1B ∷ 0x23 ∷ 0x90 ∷ 0x91 ∷ []) ≡ 0x88 ∷ 0x1B ∷ 0x1A ∷ 0x00 ∷ 0x00 ∷ []
-  -- n in the slot bound: the longest length for a request, else the data bytes
-  pub bound-of-a-request : boundOf 30 (framed 11 []) ≡ 30
+  -- the slots of `longest-answer` are within the bound of a request, R = 0; n in the bound of another frame is its data bytes
+  pub longest-answer-bound : leb 360 ((0 + 0 + 1) * size (boundOf 30 (framed 11 []))) ≡ true
   pub bound-of-data : boundOf 30 (framed 8 (0xA5 ∷ [])) ≡ 1
   pub bound-of-a-deferred-reply : boundOf 30 (framed 10 (0xA5 ∷ [])) ≡ 1

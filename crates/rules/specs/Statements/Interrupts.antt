@@ -1,4 +1,4 @@
--- The interrupt line, and the events that raise the six status bits (01, Memory map, Receiving and Sending).
+-- The interrupt line, and the events that raise the six status bits (01, Memory map, Receiving and Sending; 02, Req 01).
 --   Shared == two bytes share a one        Places == where the bits stand in 0x09
 --   Resets, Exhausts, Completes, Spoils, Stores == the events that raise RST, TE, TOK, RE, and ROK or RNOK
 --   Raised == these events leave the bit 1, and no other event turns it from 0 to 1

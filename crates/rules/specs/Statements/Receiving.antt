@@ -1,4 +1,4 @@
--- What reaches the mailbox, and what the model acknowledges (01, Receiving): one claim about the list of events.
+-- What reaches the mailbox, and what the model acknowledges (01, Receiving; 02, Req 01): one claim about the list of events.
 --   received, errorAfter == what a frame does to the memory map, and to 0x07        Log, logNext == the samples since the frame's start, and the memory map that names who takes it
 --   Heeds == what holds of a slot, whoever sends        Delivers == what holds of a slot of another module's frame
 --   Acknowledges == what holds where the model drives an acknowledge

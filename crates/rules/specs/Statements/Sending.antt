@@ -132,7 +132,7 @@ te c = c .core .report .flags .te
 unfoldable pub boundOf : ℕ → Frame → ℕ
 boundOf longest f = pick (requestT f) longest (length (f .bytes))
 
--- "it stands outside any service, .., counts in neither C nor errors"; "An error in it sets .. not TE" (02, Req 01)
+-- "it stands outside any service, .., counts in neither C nor errors"; "An error in it sets .. not TE" (02, Req 01). The counts are facts of the tally; `te` binds the model
 pub record Outside (c : Controller) (o : Observer) (e : Event) : Type 0 where
   pub lost : seenO c o e .lost ≡ o .tally .lost
   pub errors : seenO c o e .errors ≡ o .tally .errors
