@@ -16,12 +16,12 @@ use Rattle.rules.specs.Definitions.Channels.{nobody, winnerFor}
 use Rattle.rules.specs.Definitions.Longest.{capacity}
 use Rattle.rules.specs.Definitions.Reception.{begun}
 use Rattle.rules.specs.Definitions.Hearing.{hearFrame}
-use Rattle.rules.specs.Statements.Valid.{high, low, owes, Valid}
-use Rattle.rules.proofs.Receiving.Invariant.{Whole}
-use Rattle.rules.proofs.Receiving.InvariantLaws.{invariant-header, invariant-good, invariant-last, invariant-goes}
+use Rattle.every_run.specs.Valid.{high, low, owes, Valid}
+use Rattle.every_run.proofs.Receiving.Invariant.{Whole}
+use Rattle.every_run.proofs.Receiving.InvariantLaws.{invariant-header, invariant-good, invariant-last, invariant-goes}
 use Rattle.rules.specs.Definitions.Slots.{receptionJudged}
-use Rattle.rules.specs.Statements.Receiving.{Log, noLog, sampledLog}
-use Rattle.rules.proofs.Receiving.Log.{Following, begun-following, following-next, none-wins}
+use Rattle.every_run.specs.Receiving.{Log, noLog, sampledLog}
+use Rattle.every_run.proofs.Receiving.Log.{Following, begun-following, following-next, none-wins}
 use Rattle.rules.specs.declared.Reception.{Reception}
 use Rattle.rules.specs.declared.Winner.{Winner}
 use Rattle.rules.specs.declared.Hearing.{Hearing}

@@ -9,12 +9,12 @@ use Rattle.codec.specs.declared.Refusal.{Refusal}
 use Rattle.codec.specs.Decode.{frame, refused, reading}
 use Rattle.codec.proofs.Exact.{codec}
 use Rattle.rules.specs.Definitions.Longest.{longestOf}
-use Rattle.rules.specs.Statements.Valid.{Valid}
+use Rattle.every_run.specs.Valid.{Valid}
 use Rattle.rules.specs.Definitions.Run.{fresh, next}
-use Rattle.rules.specs.Statements.OwnFrames.{statusAt}
-use Rattle.rules.specs.Statements.Receiving as rule
-use Rattle.rules.specs.Statements.Receiving.{Log, noLog, logNext, received, taker, hears, Delivers, DeliversIn, ReceivingOver}
-use Rattle.rules.proofs.Receiving.EveryRun.{delivery}
+use Rattle.every_run.specs.OwnFrames.{statusAt}
+use Rattle.every_run.specs.Receiving as rule
+use Rattle.every_run.specs.Receiving.{Log, noLog, logNext, received, taker, hears, Delivers, DeliversIn, ReceivingOver}
+use Rattle.every_run.proofs.Receiving.EveryRun.{delivery}
 use Rattle.rules.specs.declared.Hearing.the-variants.{Good}
 use Rattle.rules.specs.declared.Controller.{Controller}
 use Rattle.rules.specs.declared.Event.{Event}

@@ -17,14 +17,14 @@ use Rattle.rules.specs.Definitions.Longest.{capacity}
 use Rattle.rules.specs.Definitions.Channels.{base, takes, nobody, winnerOf, lowest, lowestListening, won, winnerFor}
 use Rattle.rules.proofs.Matching.Lowest.{found}
 use Rattle.rules.specs.Definitions.Mailbox.{mailboxAt, statusByte, laidFrom, stored, retagged, markedCher, markedChtx, markedChrx, rowsWritten, resetMemory}
-use Rattle.rules.specs.Statements.Valid.{high, low}
+use Rattle.every_run.specs.Valid.{high, low}
 use Rattle.rules.specs.Definitions.Delivery.{memoryStored, memoryDelivered}
 use Rattle.rules.specs.Definitions.Service.{memoryEnded, memoryReplied}
 use Rattle.rules.specs.Definitions.Slots.{memoryJudged, judgedSlot, sampledSlot, activeSlot}
 use Rattle.rules.specs.Definitions.Host.{resetAll, resets, sleeps, keptByte, byteWritten, hostWritten}
 use Rattle.rules.specs.Definitions.Run.{fresh, refuse, accept, answered, restedSlot, next, after}
-use Rattle.rules.proofs.Steps.{Step, refusal, reset, wrote, gave, went, rested, step-of}
-use Rattle.rules.specs.Statements.Receiving.{storedFrame, received}
+use Rattle.every_run.proofs.Steps.{Step, refusal, reset, wrote, gave, went, rested, step-of}
+use Rattle.every_run.specs.Receiving.{storedFrame, received}
 use Rattle.rules.specs.declared.Choice.{Choice}
 use Rattle.rules.specs.declared.Choice.the-variants.{Nothing, Lowest}
 use Rattle.rules.specs.declared.Winner.{Winner}

@@ -11,7 +11,7 @@ use Rattle.line.specs.Frame.{Frame, slots}
 use Rattle.codec.specs.Decode.{frame, reading}
 use Rattle.rules.specs.Definitions.Channels.{winnerFor}
 use Rattle.rules.specs.Definitions.Hearing.{hearFrame}
-use Rattle.rules.specs.Statements.Valid.{high, low, Valid}
+use Rattle.every_run.specs.Valid.{high, low, Valid}
 use Rattle.rules.specs.Definitions.Slots.{receptionJudged}
 use Rattle.rules.specs.declared.Reception.{Reception}
 use Rattle.rules.specs.declared.Hearing.{Hearing}

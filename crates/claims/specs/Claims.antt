@@ -40,15 +40,15 @@ use Rattle.rules.specs.Statements.Bits.{bitAt}
 use Rattle.rules.specs.Definitions.Mailbox.{mailboxAt, statusByte, markedCher}
 use Rattle.rules.specs.Definitions.Reception.{begun}
 use Rattle.rules.specs.Definitions.Hearing.{fits}
-use Rattle.rules.specs.Statements.Valid.{low}
+use Rattle.every_run.specs.Valid.{low}
 use Rattle.rules.specs.Definitions.State.{inRange, isAsleep}
 use Rattle.rules.specs.Definitions.Run.{fresh, step, next, after}
 use Rattle.rules.specs.Statements.Observer.{atReset}
-use Rattle.rules.specs.Statements.Sending.{SendingOver}
-use Rattle.rules.specs.Statements.Settled.{SettledOver}
-use Rattle.rules.specs.Statements.Receiving.{noLog, received, ReceivingOver}
-use Rattle.rules.specs.Statements.OwnFrames.{OwnFrames}
-use Rattle.rules.specs.Statements.Interrupts as interrupt
+use Rattle.every_run.specs.Sending.{SendingOver}
+use Rattle.every_run.specs.Settled.{SettledOver}
+use Rattle.every_run.specs.Receiving.{noLog, received, ReceivingOver}
+use Rattle.every_run.specs.OwnFrames.{OwnFrames}
+use Rattle.every_run.specs.Interrupts as interrupt
 use Rattle.rules.specs.Statements.Claims as rules
 use Rattle.rules.specs.declared.Winner.{Winner}
 use Rattle.rules.specs.declared.Controller.{Controller}
@@ -163,7 +163,7 @@ pub record Receiving : Type 0 where
   pub sound : (longest : ℕ) → longest ≤ capacity → (m s : List ℕ) → Below 2 s → agree.receives longest m begun s ≡ true → agree.Accepted longest m (0 ∷ s)
   pub complete : (longest : ℕ) → longest ≤ capacity → (m s : List ℕ) → Below 2 s → agree.Accepted longest m (0 ∷ s) → agree.receives longest m begun s ≡ true
   -- "Matched and fitting, RAK 1, DRAK 0, check right: the model drives the acknowledge", and no other dominant level outside its own frames
-  -- (crates/rules/specs/Statements/Receiving.antt). Before each event and after the last one (Acknowledges):
+  -- (crates/every_run/specs/Receiving.antt). Before each event and after the last one (Acknowledges):
   --   only: where the model drives dominant, in neither an attempt nor a reply, the samples are the slots of a valid frame that is owed an acknowledge, up to it, and one more, its first slot
   --   due: where nine slots are to come of a frame that is owed one, the model drives dominant
   -- Of each accepted slot of an active controller, whoever sends (Heeds):
@@ -175,19 +175,19 @@ pub record Receiving : Type 0 where
   --   complete: where the samples are a whole frame, it ends here as good        faultless: where a fault is heard, no valid frame begins with the samples
   --   silent: the slot is never taken for a quiet line        early: where no frame ends here as good, no mailbox byte changes
   pub acknowledged : (es : List Event) → ReceivingOver fresh noLog es
-  -- a closed run: the acknowledge is driven and the frame stored; and the claim above once more
-  pub closed : rules.Receiving
+  -- a closed run: the acknowledge is driven and the frame stored
+  pub closed : rules.Received
   -- "The model's own frame .. is not stored, touches no receiving channel and is never acknowledged by the model", an attempt's and an immediate reply's
-  -- (crates/rules/specs/Statements/OwnFrames.antt)
+  -- (crates/every_run/specs/OwnFrames.antt)
   pub own : OwnFrames
-  -- "The interrupt line is asserted when status and enable share a one"; what raises each of the six bits, and nothing else does (crates/rules/specs/Statements/Interrupts.antt)
+  -- "The interrupt line is asserted when status and enable share a one"; what raises each of the six bits, and nothing else does (crates/every_run/specs/Interrupts.antt)
   pub interrupts : interrupt.Interrupts
   -- "Reset values": a host reads each of them after a reset, by pin or GRES
   pub resets : rules.Resets
 
 -- "After each event the memory map, the driven level and the interrupts are those the controller's data sheet and document 01 define"
 pub record EveryEvent : Type 0 where
-  -- for every list of events, from what stood before, the event and the observer (Settles in crates/rules/specs/Statements/Settled.antt). Of each event:
+  -- for every list of events, from what stood before, the event and the observer (Settles in crates/every_run/specs/Settled.antt). Of each event:
   --   value: an accepted slot answers the level of the next slot after the transmit inversion: the frame's in an attempt and in a reply, dominant where an acknowledge is owed,
   --     else recessive
   --   memory: every byte of the map: a write changes its own byte, a reset the registers' bytes, a slot what is delivered and the marks of a service or a reply that ends
@@ -200,8 +200,8 @@ pub record Sending : Type 0 where
   -- "each event gets the controller that the last one left"
   pub chained : (c : Controller) (es : List Event) (e : Event) → after c (es ++ (e ∷ [])) ≡ step (after c es) e .next
   -- for every list of events: one fixed frame of which each attempt drives an opening part, at most R + 1 errors, TE exactly at R + 1, at most
-  -- (C + R + 1) × (60 + 10n) slots, by the tally's own count (SendingOver and Claim in crates/rules/specs/Statements/Sending.antt, the tally in Tally.antt, the observer
-  -- that keeps it in Observer.antt). Of each event:
+  -- (C + R + 1) × (60 + 10n) slots, by the tally's own count (SendingOver and Claim in crates/every_run/specs/Sending.antt; the tally and the observer
+  -- that keeps it in crates/rules/specs/Statements). Of each event:
   --   agrees: mode, free line, start taken, frame under way, role, service, counts and driven level of the controller are those of the observer, which reads nothing of it but its
   --     memory map, the levels driven and sampled, whether an event was accepted and the longest data length
   --   fits: the frame of the service under way is a frame no longer than the controller sends

@@ -10,14 +10,14 @@ use Rattle.line.specs.Frame.{Frame, Fits, slots}
 use Rattle.codec.specs.declared.Refusal.{Refusal}
 use Rattle.codec.specs.Decode.{frame, refused, reading}
 use Rattle.rules.specs.Definitions.Longest.{longestOf}
-use Rattle.rules.specs.Statements.Valid.{Valid}
+use Rattle.every_run.specs.Valid.{Valid}
 use Rattle.rules.specs.Definitions.State.{isActive}
 use Rattle.rules.specs.Definitions.Slots.{sampleOf}
 use Rattle.rules.specs.Definitions.Run.{next}
 use Rattle.rules.specs.Statements.Observer.{accepted}
-use Rattle.rules.specs.Statements.OwnFrames.{statusAt}
+use Rattle.every_run.specs.OwnFrames.{statusAt}
 use Rattle.rules.specs.Definitions.Service.{receives}
-use Rattle.rules.specs.Statements.Receiving.{Log, logNext, received, taker, role, hears}
+use Rattle.every_run.specs.Receiving.{Log, logNext, received, taker, role, hears}
 use Rattle.rules.specs.declared.Hearing.the-variants.{Fault, Good}
 use Rattle.rules.specs.declared.Role.the-variants.{Receiver}
 use Rattle.rules.specs.declared.Controller.{Controller}

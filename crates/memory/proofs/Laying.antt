@@ -13,7 +13,7 @@ use Rattle.line.specs.Frame.{Frame, byteBits, covered}
 use Rattle.line.proofs.Laws.{next, header-bits}
 use Rattle.rules.specs.Definitions.Channels.{base, bufferOf, twelve}
 use Rattle.rules.specs.Definitions.Mailbox.{mailboxAt, statusByte, laidFrom, stored, mailboxBytes, dataIn, frameWith, asksReply, sentFrame, codedBytes, coded}
-use Rattle.rules.proofs.Ranges.Bytes.{mailbox-length}
+use Rattle.rules.proofs.Mailbox.{mailbox-length}
 use Rattle.rules.specs.declared.Buffer.{Buffer}
 use Rattle.rules.specs.declared.Coded.{Coded}
 

@@ -16,9 +16,8 @@ use Rattle.rules.specs.Definitions.Slots.{drives}
 use Rattle.rules.specs.Definitions.Host.{lineStatusOf, resetAll}
 use Rattle.rules.specs.Definitions.Run.{fresh, step}
 use Rattle.rules.specs.Statements.Observer.{atReset}
-use Rattle.rules.specs.Statements.Tally.{requestT}
-use Rattle.rules.specs.Statements.Sending.{boundOf}
-use Rattle.rules.specs.Statements.Claims.{Runs, Courses}
+use Rattle.rules.specs.Statements.Tally.{requestT, boundOf}
+use Rattle.rules.specs.Statements.Claims.{Received, Runs, Courses}
 use Rattle.rules.specs.Statements.Runs.{Counts, seenOver, setUp, ones, levels, sent, echoed, overdriven, ran, listening, asking, Stored, lastAnswer, reads, sees, pin, again, sendingData, failures, overdrivenAt, refuses, readsFrom, writesFrom, framed, heardBy, offered, typesFrom, types, flipped, beyond, largestOf, lower}
 use Rattle.rules.specs.declared.Choice.the-variants.{Lowest}
 use Rattle.rules.specs.declared.Mode.the-variants.{Active}
@@ -72,6 +71,9 @@ driven = refl
 pub stored : Stored (ran fresh (listening ++ (ones 12 ++ levels (slots asking))) .memory)
 unfolding ran lastAnswer listening ones levels asking
 stored = (refl, refl, refl, refl, refl)
+
+pub received : Received
+received = record { driven = driven; stored = stored }
 
 -- of the channels from 3 on that pass, the lowest
 pub lowest-of-many : lowest (leb 3) 14 0 ≡ Lowest 3

@@ -2,14 +2,6 @@ pub mod Bits
 pub mod ClosedRuns
 pub mod Resets
 pub mod Matching
-pub mod Steps
 pub mod Logic
 pub mod Samples
-pub mod Judged
-pub mod Roles
-pub mod Sending
-pub mod Ranges
-pub mod Receiving
-pub mod OwnFrames
-pub mod Observer
-pub mod Interrupts
+pub mod Mailbox

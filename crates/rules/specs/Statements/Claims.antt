@@ -1,4 +1,4 @@
--- What is claimed of the controller's rules: refusals, reset values, matching, sending, what every event leaves, receiving, closed runs.
+-- What is claimed of the controller's rules: reset values, matching, closed runs. The claims over every run of events are in crates/every_run.
 use Prim.Native.Nat.{ℕ, _+_, _*_, _≤_, _<_}
 use mathlib.Core.Bool.{Bool, true, false}
 use mathlib.Core.List.{List, [], _∷_, _++_}
@@ -11,27 +11,17 @@ use Rattle.rules.specs.Definitions.Registers.{either, resetValues}
 use Rattle.rules.specs.Definitions.Channels.{receiveMessage, requestDetection, transmitMessage, deferredReply, requestMessage, awaitsReply, immediateReply, matches, lowest}
 use Rattle.rules.specs.Definitions.Mailbox.{resetMemory}
 use Rattle.rules.specs.Statements.Bits.{bitAt}
-use Rattle.rules.specs.Definitions.State.{ranges, inRange}
+use Rattle.rules.specs.Definitions.State.{ranges}
 use Rattle.rules.specs.Definitions.Slots.{drives}
 use Rattle.rules.specs.Definitions.Host.{resetAll, byteRead, lineStatusOf}
-use Rattle.rules.specs.Definitions.Run.{fresh, step, after}
+use Rattle.rules.specs.Definitions.Run.{fresh, step}
+use Rattle.rules.specs.Statements.Tally.{boundOf}
 use Rattle.rules.specs.Statements.Observer.{atReset}
-use Rattle.rules.specs.Statements.Sending.{boundOf, SendingOver}
-use Rattle.rules.specs.Statements.Settled.{SettledOver}
-use Rattle.rules.specs.Statements.Receiving.{noLog, ReceivingOver}
 use Rattle.rules.specs.Statements.Runs.{Counts, seenOver, setUp, ones, levels, sent, echoed, overdriven, ran, listening, asking, Stored, lastAnswer, sees, pin, again, sendingData, failures, overdrivenAt, refuses, readsFrom, writesFrom, framed, heardBy, offered, types, flipped, beyond, largestOf, lower}
 use Rattle.rules.specs.declared.Choice.the-variants.{Lowest}
 use Rattle.rules.specs.declared.Mode.the-variants.{Active}
 use Rattle.rules.specs.declared.Controller.{Controller}
-use Rattle.rules.specs.declared.Event.{Event}
 use Rattle.rules.specs.declared.Event.the-variants.{Reset, Slot, Write, Read}
-
--- a refused event changes nothing and answers zero; no state that a run reaches is refused with 6
-pub record Refusals : Type 0 where
-  pub same : (c : Controller) (e : Event) → (step c e .refused ≡ 0 → ⊥) → step c e .next ≡ c
-  pub zero-elsewhere : (c : Controller) (e : Event) → (step c e .refused ≡ 0 → ⊥) → step c e .value ≡ 0
-  pub in-range : (es : List Event) → inRange (after fresh es .core) ≡ true
-  pub never-six : (es : List Event) (e : Event) → step (after fresh es) e .refused ≡ 6 → ⊥
 
 -- a host reads the byte of each row (address, byte)
 abbrev pub ReadsAs : Controller → List (ℕ × ℕ) → Type 0
@@ -51,18 +41,8 @@ pub record Matching : Type 0 where
   -- "Lowest channel number wins": the one that is found passes, and none below it does
   pub wins : (passes : ℕ → Bool) (left from c : ℕ) → lowest passes left from ≡ Lowest c → (passes c ≡ true) × ((k : ℕ) → from ≤ k → k < c → passes k ≡ false)
 
--- demand 3, for every list of events from a fresh controller
-pub record Sending : Type 0 where
-  pub kept : (es : List Event) → SendingOver fresh atReset es
-
--- what every event leaves, for every list of events from a fresh controller
-pub record EveryEvent : Type 0 where
-  pub settled : (es : List Event) → SettledOver fresh atReset es
-
--- what is delivered and acknowledged, for every list of events from a fresh controller
-pub record Receiving : Type 0 where
-  pub kept : (es : List Event) → ReceivingOver fresh noLog es
-  -- a closed run: the acknowledge is driven, and the frame is stored
+-- a closed run: the acknowledge is driven, and the frame is stored
+pub record Received : Type 0 where
   pub driven : drives (ran fresh (listening ++ (ones 12 ++ levels (take 71 (slots asking)))) .core) ≡ 0
   pub stored : Stored (ran fresh (listening ++ (ones 12 ++ levels (slots asking))) .memory)
 

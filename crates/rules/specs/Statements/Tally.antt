@@ -124,6 +124,10 @@ arbitratedT After = false
 unfoldable pub requestT : Frame → Bool
 requestT f = eqb (f .command % 4) 3
 
+-- n of the slot bound (60 + 10n): the data bytes of the frame; "n reads 30 in its slot bound" for a request (02, Req 01), the longest length
+unfoldable pub boundOf : ℕ → Frame → ℕ
+boundOf longest f = pick (requestT f) longest (length (f .bytes))
+
 -- "Recessive driven and dominant sampled .. is lost contention"; "Every other difference is an error". "A requester that sees its recessive RTR driven dominant has not
 -- lost contention: the attempt goes on as a reception" (02, Req 01): RTR's first half is slot 28, counted from 0
 unfoldable pub verdict : Frame → ℕ → ℕ → ℕ → Verdict

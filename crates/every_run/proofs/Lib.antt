@@ -1,0 +1,9 @@
+pub mod Steps
+pub mod Judged
+pub mod Roles
+pub mod Sending
+pub mod Ranges
+pub mod Receiving
+pub mod OwnFrames
+pub mod Observer
+pub mod Interrupts

@@ -1,0 +1,8 @@
+-- What is claimed of the rules over every run of events. What must be believed is in crates/rules; the tally and the observer are in its Statements.
+pub mod Sending
+pub mod Settled
+pub mod Valid
+pub mod OwnFrames
+pub mod Interrupts
+pub mod Receiving
+pub mod Claims

@@ -1,6 +1,0 @@
-use Rattle.rules.proofs.Observer.EveryRun.{settled-over}
-use Rattle.rules.proofs.event_claims.Statement.{statement}
-use Rattle.rules.proofs.event_claims.Tie as tie
-
-pub event-claims-spec : {M : Type 1} → statement M
-event-claims-spec = tie.close (tie.spec (λ c. record { settled = settled-over }))

@@ -1,6 +1,0 @@
-use Rattle.rules.proofs.Ranges.Reach.{never-six, never-refused-six, refused-same, refused-value}
-use Rattle.rules.proofs.refusal_claims.Statement.{statement}
-use Rattle.rules.proofs.refusal_claims.Tie as tie
-
-pub refusal-claims-spec : {M : Type 1} → statement M
-refusal-claims-spec = tie.close (tie.spec (λ c. record { same = refused-same; zero-elsewhere = refused-value; in-range = never-six; never-six = never-refused-six }))
