@@ -5,7 +5,7 @@
 --   codec: `encoded`, `encodedRoom` (crates/encoder); `decoded`, `decodedRoom` of `reading` (crates/decoder)
 --   session: `headerAt`, `eventAt`, `endAt` (crates/session), of which `session` is made; its numbers: `decode` (crates/leb128)
 --   listing: `played`, `playedRoom` of `listingOf` (crates/player); for C: crates/frapmast
--- Nor the numbers and sessions that 01 runs (Cases in crates/leb128 and crates/session), nor the closed runs `Courses` (crates/rules/specs/Statements/Claims.antt).
+-- Nor the numbers and sessions that 01 runs (Cases in crates/leb128 and crates/session), nor the closed runs `Courses` and `MoreCourses` (crates/rules, crates/closed_runs).
 --
 -- Legend. The notation is antt's; `rt doc` prints the path of the toolchain's guide, and guides/primer.md beside it has the language.
 --   (x : A) → B        for every x of A, B holds        A → B: if A, then B        A → ⊥: A does not hold
@@ -43,13 +43,14 @@ use Rattle.rules.specs.Definitions.Hearing.{fits}
 use Rattle.every_run.specs.Valid.{low}
 use Rattle.rules.specs.Definitions.State.{inRange, isAsleep}
 use Rattle.rules.specs.Definitions.Run.{fresh, step, next, after}
-use Rattle.rules.specs.Statements.Observer.{atReset}
+use Rattle.every_run.specs.Observer.{atReset}
 use Rattle.every_run.specs.Sending.{SendingOver}
 use Rattle.every_run.specs.Settled.{SettledOver}
 use Rattle.every_run.specs.Receiving.{noLog, received, ReceivingOver}
 use Rattle.every_run.specs.OwnFrames.{OwnFrames}
 use Rattle.every_run.specs.Interrupts as interrupt
 use Rattle.rules.specs.Statements.Claims as rules
+use Rattle.closed_runs.specs.Claims as closed
 use Rattle.rules.specs.declared.Winner.{Winner}
 use Rattle.rules.specs.declared.Controller.{Controller}
 use Rattle.rules.specs.declared.Event.{Event}
@@ -176,7 +177,7 @@ pub record Receiving : Type 0 where
   --   silent: the slot is never taken for a quiet line        early: where no frame ends here as good, no mailbox byte changes
   pub acknowledged : (es : List Event) → ReceivingOver fresh noLog es
   -- a closed run: the acknowledge is driven and the frame stored
-  pub closed : rules.Received
+  pub closed : closed.Received
   -- "The model's own frame .. is not stored, touches no receiving channel and is never acknowledged by the model", an attempt's and an immediate reply's
   -- (crates/every_run/specs/OwnFrames.antt)
   pub own : OwnFrames
@@ -200,8 +201,8 @@ pub record Sending : Type 0 where
   -- "each event gets the controller that the last one left"
   pub chained : (c : Controller) (es : List Event) (e : Event) → after c (es ++ (e ∷ [])) ≡ step (after c es) e .next
   -- for every list of events: one fixed frame of which each attempt drives an opening part, at most R + 1 errors, TE exactly at R + 1, at most
-  -- (C + R + 1) × (60 + 10n) slots, by the tally's own count (SendingOver and Claim in crates/every_run/specs/Sending.antt; the tally and the observer
-  -- that keeps it in crates/rules/specs/Statements). Of each event:
+  -- (C + R + 1) × (60 + 10n) slots, by the tally's own count (SendingOver and Claim in crates/every_run/specs/Sending.antt, the tally in Tally.antt, the observer
+  -- that keeps it in Observer.antt). Of each event:
   --   agrees: mode, free line, start taken, frame under way, role, service, counts and driven level of the controller are those of the observer, which reads nothing of it but its
   --     memory map, the levels driven and sampled, whether an event was accepted and the longest data length
   --   fits: the frame of the service under way is a frame no longer than the controller sends
@@ -213,7 +214,7 @@ pub record Sending : Type 0 where
   --   outside: with a reply under way no event changes C, errors or slots of the tally, and none raises TE
   pub kept : (es : List Event) → SendingOver fresh atReset es
   -- closed runs with their figures for C, errors and slots: sent, exhausted, lost twice, joined, aborted; a request answered, answered in vain, at the bound
-  pub runs : rules.Runs
+  pub runs : closed.Runs
 
 -- ---- the marked cases (01, Marked cases), one table
 

@@ -14,7 +14,7 @@ use Rattle.every_run.specs.Valid.{Valid}
 use Rattle.rules.specs.Definitions.State.{isActive}
 use Rattle.rules.specs.Definitions.Slots.{sampleOf}
 use Rattle.rules.specs.Definitions.Run.{next}
-use Rattle.rules.specs.Statements.Observer.{accepted}
+use Rattle.every_run.specs.Observer.{accepted}
 use Rattle.every_run.specs.OwnFrames.{statusAt}
 use Rattle.rules.specs.Definitions.Service.{receives}
 use Rattle.every_run.specs.Receiving.{Log, logNext, received, taker, role, hears}

@@ -11,8 +11,8 @@ use Rattle.rules.specs.Definitions.Slots.{activeSlot}
 use Rattle.rules.specs.Definitions.Answers.{number}
 use Rattle.rules.specs.Definitions.Host.{resetAll, hostWritten, byteRead}
 use Rattle.rules.specs.Definitions.Run.{refuse, accept, unlessRefused, pinReset, hostWrite, hostRead, answered, restedSlot, slot, step, next}
-use Rattle.rules.specs.Statements.Tally.{Tally}
-use Rattle.rules.specs.Statements.Observer.{accepted}
+use Rattle.every_run.specs.Tally.{Tally}
+use Rattle.every_run.specs.Observer.{accepted}
 use Rattle.every_run.proofs.Sending.Beside.{seenIn, followIn, seenT, nextT}
 use Rattle.rules.specs.declared.Controller.{Controller}
 use Rattle.rules.specs.declared.Answer.{Answer}

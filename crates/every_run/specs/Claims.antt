@@ -4,7 +4,7 @@ use mathlib.Core.List.{List}
 use mathlib.Core.Path.{_≡_}
 use Rattle.rules.specs.Definitions.State.{inRange}
 use Rattle.rules.specs.Definitions.Run.{fresh, step, after}
-use Rattle.rules.specs.Statements.Observer.{atReset}
+use Rattle.every_run.specs.Observer.{atReset}
 use Rattle.every_run.specs.Sending.{SendingOver}
 use Rattle.every_run.specs.Settled.{SettledOver}
 use Rattle.every_run.specs.Receiving.{noLog, ReceivingOver}

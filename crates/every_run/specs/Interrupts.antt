@@ -17,7 +17,7 @@ use Rattle.rules.specs.Definitions.State.{isActive}
 use Rattle.rules.specs.Definitions.Slots.{roleIn, heard, ending, sampleOf}
 use Rattle.rules.specs.Definitions.Host.{byteRead, interruptLine}
 use Rattle.rules.specs.Definitions.Run.{fresh, next, after}
-use Rattle.rules.specs.Statements.Observer.{accepted}
+use Rattle.every_run.specs.Observer.{accepted}
 use Rattle.every_run.specs.OwnFrames.{verdictIn, replyIn}
 use Rattle.rules.specs.declared.Flags.{Flags}
 use Rattle.rules.specs.declared.Hearing.{Hearing}

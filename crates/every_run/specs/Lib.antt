@@ -1,4 +1,6 @@
--- What is claimed of the rules over every run of events. What must be believed is in crates/rules; the tally and the observer are in its Statements.
+-- What is claimed of the rules over every run of events. What must be believed is in crates/rules.
+pub mod Tally
+pub mod Observer
 pub mod Sending
 pub mod Settled
 pub mod Valid

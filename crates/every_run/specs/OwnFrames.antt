@@ -14,7 +14,7 @@ use Rattle.rules.specs.Definitions.Attempt.{drivesFrame}
 use Rattle.rules.specs.Definitions.State.{isActive}
 use Rattle.rules.specs.Definitions.Slots.{roleIn, replyVerdict, heard, verdict, ending, drives, sampleOf}
 use Rattle.rules.specs.Definitions.Run.{fresh, next, after}
-use Rattle.rules.specs.Statements.Observer.{accepted}
+use Rattle.every_run.specs.Observer.{accepted}
 use Rattle.rules.specs.declared.Stage.the-variants.{Sending}
 use Rattle.rules.specs.declared.Verdict.{Verdict}
 use Rattle.rules.specs.declared.Verdict.the-variants.{Goes, Lost, Failed, Done}

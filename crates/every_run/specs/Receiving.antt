@@ -21,7 +21,7 @@ use Rattle.rules.specs.Definitions.Service.{receives}
 use Rattle.rules.specs.Definitions.State.{isActive}
 use Rattle.rules.specs.Definitions.Slots.{roleIn, heard, verdict, drives, sampleOf}
 use Rattle.rules.specs.Definitions.Run.{next}
-use Rattle.rules.specs.Statements.Observer.{accepted}
+use Rattle.every_run.specs.Observer.{accepted}
 use Rattle.every_run.specs.Interrupts.{ownFrame}
 use Rattle.every_run.specs.OwnFrames.{statusAt}
 use Rattle.rules.specs.declared.Winner.{Winner}

@@ -15,8 +15,8 @@ use Rattle.rules.specs.Definitions.Attempt.{largest}
 use Rattle.rules.specs.Definitions.State.{isActive, serving}
 use Rattle.rules.specs.Definitions.Slots.{roleIn, drives}
 use Rattle.rules.specs.Definitions.Run.{next}
-use Rattle.rules.specs.Statements.Tally.{Stand, away, between, opening, inside, answered, Tally, boundOf, isAway}
-use Rattle.rules.specs.Statements.Observer.{freeO, startsO, Replying, silent, replies, isReplying, Observer, accepted, seenO, nextO}
+use Rattle.every_run.specs.Tally.{Stand, away, between, opening, inside, answered, Tally, requestT, isAway}
+use Rattle.every_run.specs.Observer.{freeO, startsO, Replying, silent, replies, isReplying, Observer, accepted, seenO, nextO}
 use Rattle.rules.specs.declared.Place.{Place}
 use Rattle.rules.specs.declared.Phase.the-variants.{Acknowledge}
 use Rattle.rules.specs.declared.Reception.{Reception}
@@ -128,6 +128,9 @@ InSlot (Slot levels) A = A
 
 abbrev pub te : Controller → Bool
 te c = c .core .report .flags .te
+
+unfoldable pub boundOf : ℕ → Frame → ℕ
+boundOf longest f = pick (requestT f) longest (length (f .bytes))
 
 -- "it stands outside any service, .., counts in neither C nor errors"; "An error in it sets .. not TE" (02, Req 01). The counts are facts of the tally; `te` binds the model
 pub record Outside (c : Controller) (o : Observer) (e : Event) : Type 0 where

@@ -21,8 +21,8 @@ use Rattle.rules.specs.Definitions.Slots as slot-rule
 use Rattle.rules.specs.Definitions.Slots.{heard, drives, sampleOf}
 use Rattle.rules.specs.Definitions.Host.{resets, sleeps}
 use Rattle.rules.specs.Definitions.Run.{step, next}
-use Rattle.rules.specs.Statements.Tally.{Stand, away, between, opening, inside, answered, Tally, Verdict, goes, contended, failed, sent, answers, verdict, countedT, endedT, isAway, askedT}
-use Rattle.rules.specs.Statements.Observer.{Replying, silent, replies, Observer, deliveredIn, isStored, answerO, pausing, fulfilledO, hearsO, accepted, nextO}
+use Rattle.every_run.specs.Tally.{Stand, away, between, opening, inside, answered, Tally, Verdict, goes, contended, failed, sent, answers, verdict, countedT, endedT, isAway, askedT}
+use Rattle.every_run.specs.Observer.{Replying, silent, replies, Observer, deliveredIn, isStored, answerO, pausing, fulfilledO, hearsO, accepted, nextO}
 use Rattle.every_run.specs.Sending.{levelO}
 use Rattle.rules.specs.declared.Retries.{Retries}
 use Rattle.rules.specs.declared.Reception.{Reception}

@@ -1,5 +1,5 @@
 use Rattle.every_run.proofs.Receiving.EveryRun.{delivery}
-use Rattle.rules.proofs.ClosedRuns.{received}
+use Rattle.closed_runs.proofs.ClosedRuns.{received}
 use Rattle.every_run.proofs.OwnFrames.EveryRun.{own-frames}
 use Rattle.every_run.proofs.Interrupts.Raised.{interrupts}
 use Rattle.rules.proofs.Resets.{reset-read, reset-leaves}

@@ -4,7 +4,7 @@ use Rattle.rules.specs.Definitions.Run.{step, next, after}
 use Rattle.rules.specs.declared.Controller.{Controller}
 use Rattle.rules.specs.declared.Event.{Event}
 use Rattle.every_run.proofs.Observer.EveryRun.{demand-3}
-use Rattle.rules.proofs.ClosedRuns.{runs}
+use Rattle.closed_runs.proofs.ClosedRuns.{runs}
 use Rattle.claims.proofs.sending_claims.Statement.{statement}
 use Rattle.claims.proofs.sending_claims.Tie as tie
 

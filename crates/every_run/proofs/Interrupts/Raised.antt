@@ -30,10 +30,10 @@ use Rattle.every_run.proofs.Judged as judgement
 use Rattle.every_run.proofs.Judged.{went, lost, broke, done, Tried, unjudged, awaited, judged}
 use Rattle.every_run.proofs.Ranges.Bytes.{at-below}
 use Rattle.every_run.proofs.Ranges.Reach.{verdict-tried, fine-after}
-use Rattle.rules.specs.Statements.Tally.{none}
+use Rattle.every_run.specs.Tally.{none}
 use Rattle.every_run.proofs.Sending.Follow.{idle-report, isExhausted, te-judged}
 use Rattle.every_run.proofs.Observer.Flags.{endedFlags, flags-ended, flags-follow, ended-same, isSent, isDone, isFailed, ended-tok, ended-te, raised-by, after-rst, after-tok, after-re, after-rok, after-rnok}
-use Rattle.rules.specs.Statements.Observer.{isStored, accepted}
+use Rattle.every_run.specs.Observer.{isStored, accepted}
 use Rattle.every_run.proofs.Steps as steps
 use Rattle.every_run.proofs.Steps.{Step, step-of, refused-next, refused-not, accepted-next}
 use Rattle.every_run.specs.OwnFrames.{verdictIn, replyIn}

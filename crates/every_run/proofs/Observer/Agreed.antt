@@ -23,9 +23,9 @@ use Rattle.rules.specs.Definitions.Slots.{roleIn, replyVerdict, heard, receptio
 use Rattle.rules.specs.Definitions.Host.{resetAll, resets, sleeps, modeCommanded, flagsCleared, coreWritten, serviceAsked, stoppedCore, byteWritten, hostWritten}
 use Rattle.rules.specs.Definitions.Run as run
 use Rattle.rules.specs.Definitions.Run.{fresh, accept, restedSlot, step, next}
-use Rattle.rules.specs.Statements.Tally.{Stand, away, between, opening, inside, answered, Tally, none, Answering, verdict, countedT, endedIn, endedT, chooseIn, chooseT, startIn, startT, askedIn, askedT, isAway}
-use Rattle.rules.specs.Statements.Observer as observer
-use Rattle.rules.specs.Statements.Observer.{Past, recessive, freeO, startsO, anew, Replying, silent, replies, Observer, withActivityO, withLineO, withFrameO, withTallyO, withReplyO, atReset, codeT, hearsOwn, hearsOther, hearsApart, hearsIn, hearsO, answerIn, answerO, fulfilledT, fulfilledO, isReplying, replyIn, lineO, sampledO, idleO, goesOnO, activatedO, idleAskedO, commandedO, writtenO, nextO}
+use Rattle.every_run.specs.Tally.{Stand, away, between, opening, inside, answered, Tally, none, Answering, verdict, countedT, endedIn, endedT, chooseIn, chooseT, startIn, startT, askedIn, askedT, isAway}
+use Rattle.every_run.specs.Observer as observer
+use Rattle.every_run.specs.Observer.{Past, recessive, freeO, startsO, anew, Replying, silent, replies, Observer, withActivityO, withLineO, withFrameO, withTallyO, withReplyO, atReset, codeT, hearsOwn, hearsOther, hearsApart, hearsIn, hearsO, answerIn, answerO, fulfilledT, fulfilledO, isReplying, replyIn, lineO, sampledO, idleO, goesOnO, activatedO, idleAskedO, commandedO, writtenO, nextO}
 use Rattle.every_run.specs.Sending.{levelApart, levelIn, levelO, roleApart, roleAs, Counted, Agrees}
 use Rattle.rules.proofs.Logic.{left}
 use Rattle.every_run.proofs.Roles.{quiet-phase, role-sender, role-asker, role-other, heard-nobody, heard-receiver, heard-sender, heard-asker, heard-replier}

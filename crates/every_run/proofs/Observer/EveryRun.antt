@@ -12,9 +12,9 @@ use Rattle.rules.specs.Definitions.Attempt.{atStage, isDriving, drivesFrame, is
 use Rattle.rules.specs.Definitions.State.{isActive}
 use Rattle.rules.specs.Definitions.Slots.{drives, sampleOf}
 use Rattle.rules.specs.Definitions.Run.{fresh, next}
-use Rattle.rules.specs.Statements.Tally.{Stand, away, between, opening, inside, answered, Tally, Answering, countedIn, countedT}
-use Rattle.rules.specs.Statements.Observer as observer
-use Rattle.rules.specs.Statements.Observer.{Replying, silent, replies, isReplying, Observer, atReset, answerIn, answerO, accepted, seenO, nextO}
+use Rattle.every_run.specs.Tally.{Stand, away, between, opening, inside, answered, Tally, Answering, countedIn, countedT}
+use Rattle.every_run.specs.Observer as observer
+use Rattle.every_run.specs.Observer.{Replying, silent, replies, isReplying, Observer, atReset, answerIn, answerO, accepted, seenO, nextO}
 use Rattle.every_run.specs.Sending.{levelIn, levelO, AtAcknowledge, InSlot, DrivesAnswered, DrivesReply, Outside, te, Claim, SendingOver}
 use Rattle.every_run.specs.Settled.{SettledOver}
 use Rattle.every_run.proofs.Steps.{step-of}

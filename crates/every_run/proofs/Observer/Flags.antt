@@ -13,7 +13,7 @@ use Rattle.rules.specs.Definitions.Delivery.{receiveError, reportStored, report
 use Rattle.rules.specs.Definitions.Service.{reportSending, reportJudged, reportEnded, reportReplied}
 use Rattle.rules.specs.Definitions.State.{idleDue}
 use Rattle.rules.specs.Definitions.Slots.{roleIn, delivers, serviceJudged, ending, reportAfter, startMade, followsOn}
-use Rattle.rules.specs.Statements.Observer.{isStored}
+use Rattle.every_run.specs.Observer.{isStored}
 use Rattle.every_run.specs.Settled.{isSpoiled}
 use Rattle.rules.proofs.Logic.{left}
 use Rattle.every_run.proofs.Sending.Follow.{idle-report, choice-flags, isExhausted}

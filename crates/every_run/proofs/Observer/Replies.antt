@@ -22,9 +22,9 @@ use Rattle.rules.specs.Definitions.Hearing.{receptionAfter}
 use Rattle.rules.specs.Definitions.Attempt.{drivesFrame, isAnswered, rtrSlot, levelAt, inCheck, inAcknowledge, differenceIn, difference, judgeSlot}
 use Rattle.rules.specs.Definitions.Service.{noReply, judgeReply, replyMoved, replied, replyBy, replyTaken, hearOwn}
 use Rattle.rules.specs.Definitions.Slots.{roleIn, replyVerdict, receptionJudged, replyAfter, drivesAs, drives}
-use Rattle.rules.specs.Statements.Tally as tally
-use Rattle.rules.specs.Statements.Tally.{goes, contended, failed, sent, answers, requestT, dueLevel, openHalfT, arbitratedT, verdict}
-use Rattle.rules.specs.Statements.Observer.{Replying, silent, replies, isReplying, codeT, hearsOwn, replyOn, replyFrom, replyApart}
+use Rattle.every_run.specs.Tally as tally
+use Rattle.every_run.specs.Tally.{goes, contended, failed, sent, answers, requestT, dueLevel, openHalfT, arbitratedT, verdict}
+use Rattle.every_run.specs.Observer.{Replying, silent, replies, isReplying, codeT, hearsOwn, replyOn, replyFrom, replyApart}
 use Rattle.every_run.specs.Sending.{DrivesPart}
 use Rattle.every_run.specs.Settled.{Replied, unended, whole, broken, repliedBy, repliedApart}
 use Rattle.rules.proofs.Logic.{left}

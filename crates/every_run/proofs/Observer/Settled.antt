@@ -26,8 +26,8 @@ use Rattle.rules.specs.Definitions.Slots.{roleIn, replyVerdict, heard, delivers
 use Rattle.rules.specs.Definitions.Host.{resetAll, resets, sleeps, modeCommanded, keptByte, flagsCleared, coreWritten, serviceAsked, stoppedCore, byteWritten, hostWritten, lineStatusOf, statusRead, byteRead, accessRefusals, readRefusals}
 use Rattle.rules.specs.Definitions.Run as run
 use Rattle.rules.specs.Definitions.Run.{accept, refuse, hostRead, restedSlot, step, next}
-use Rattle.rules.specs.Statements.Tally.{Stand, away, between, opening, inside, answered, Tally, Answering, none, requestT, withStand, withAbort, withRear, countedIn, countedT, endedT, chosenT, choiceT, chooseIn, chooseT, startIn, startT, askedIn, askedT, asks, isAway}
-use Rattle.rules.specs.Statements.Observer.{freeO, Replying, silent, replies, Observer, fitting, heardDelivery, deliveredApart, deliveredIn, isStored, answerIn, answerO, pausing, waits, fulfilledT, isReplying, fulfilledO, sampledO, goesOnO, accepted, nextO}
+use Rattle.every_run.specs.Tally.{Stand, away, between, opening, inside, answered, Tally, Answering, none, requestT, withStand, withAbort, withRear, countedIn, countedT, endedT, chosenT, choiceT, chooseIn, chooseT, startIn, startT, askedIn, askedT, asks, isAway}
+use Rattle.every_run.specs.Observer.{freeO, Replying, silent, replies, Observer, fitting, heardDelivery, deliveredApart, deliveredIn, isStored, answerIn, answerO, pausing, waits, fulfilledT, isReplying, fulfilledO, sampledO, goesOnO, accepted, nextO}
 use Rattle.every_run.specs.Sending.{levelO}
 use Rattle.every_run.specs.Settled as settlement
 use Rattle.every_run.specs.Settled.{sentAll, exhaustedIn, abortedIn, endedMap, retriesT, deliveredMap, isSpoiled, Replied, repliedAt, repliedMap, isWhole, isBroken, repliedMessage, judgedIn, hearingIn, deliveryIn, repliedIn, writtenMap, memoryO, zeroRetries, sendingO, messageO, isGood, isNothing, codeHeard, overflows, untaken, errorO, flagO, readO, rak, Answers, Hears, Settles}

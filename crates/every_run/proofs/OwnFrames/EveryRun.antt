@@ -26,9 +26,9 @@ use Rattle.rules.specs.Definitions.State.{isActive, serving, resetCore, idled, 
 use Rattle.rules.specs.Definitions.Slots.{roleIn, replyVerdict, heardAs, heard, delivers, verdictAs, verdict, serviceJudged, ending, receptionJudged, memoryJudged, replyAfter, coreJudged, chooses, choiceMade, startMade, followsOn, drivesAs, drives, sampleOf, judgedSlot, sampledSlot, activeSlot}
 use Rattle.rules.specs.Definitions.Host.{resetAll, resets, sleeps, coreWritten, serviceAsked, stoppedCore, byteWritten, hostWritten, keptByte}
 use Rattle.rules.specs.Definitions.Run.{fresh, answered, restedSlot, next, after}
-use Rattle.rules.specs.Statements.Tally.{none}
+use Rattle.every_run.specs.Tally.{none}
 use Rattle.every_run.proofs.Sending.Follow.{idle-service, follows-reception, follows-reply, stopped-service}
-use Rattle.rules.specs.Statements.Observer.{accepted}
+use Rattle.every_run.specs.Observer.{accepted}
 use Rattle.every_run.proofs.Steps as steps
 use Rattle.every_run.proofs.Steps.{Step, step-of, refused-next, refused-not, accepted-next}
 use Rattle.rules.proofs.Logic.{clash}

@@ -23,7 +23,7 @@ use Rattle.rules.specs.Definitions.State.{isActive, inMode, serving, resetCore,
 use Rattle.rules.specs.Definitions.Slots.{roleIn, replyVerdict, heard, delivers, verdictAs, verdict, serviceJudged, ending, receptionJudged, memoryJudged, replyAfter, coreJudged, chooses, choiceMade, startMade, followsOn, sampleOf, judgedSlot, sampledSlot, activeSlot}
 use Rattle.rules.specs.Definitions.Host.{resetAll, resets, sleeps, modeCommanded, rearCommanded, flagsCleared, coreWritten, serviceAsked, stoppedCore, byteWritten, hostWritten}
 use Rattle.rules.specs.Definitions.Run.{fresh, answered, restedSlot, next, after}
-use Rattle.rules.specs.Statements.Tally.{none}
+use Rattle.every_run.specs.Tally.{none}
 use Rattle.rules.proofs.Logic.{both-true, clash, left}
 use Rattle.every_run.proofs.Judged.{Judged, went, lost, broke, done, slot-judged}
 use Rattle.every_run.proofs.Judged as judged

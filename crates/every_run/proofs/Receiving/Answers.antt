@@ -24,9 +24,9 @@ use Rattle.rules.specs.Definitions.Slots.{heard, drives, sampleOf, activeSlot}
 use Rattle.rules.specs.Definitions.Host.{resetAll, resets, sleeps, hostWritten}
 use Rattle.rules.specs.Definitions.Run as run
 use Rattle.rules.specs.Definitions.Run.{fresh, restedSlot, step, next}
-use Rattle.rules.specs.Statements.Tally as tally
-use Rattle.rules.specs.Statements.Tally.{Stand, away, between, opening, inside, answered, Tally, none, Verdict, goes, contended, failed, sent, answers, Answering, comes, taken, wasted, dueLevel, openHalfT, arbitratedT, requestT, verdict, spentT, judgedAs, repliedAs, countedIn, countedT, givenUp, endedIn, endedT, chosenT, choiceT, chooseIn, chooseT, startIn, startT, asks, askedIn, askedT}
-use Rattle.rules.specs.Statements.Observer.{heardDelivery, isStored, answerIn, fulfilledT, accepted}
+use Rattle.every_run.specs.Tally as tally
+use Rattle.every_run.specs.Tally.{Stand, away, between, opening, inside, answered, Tally, none, Verdict, goes, contended, failed, sent, answers, Answering, comes, taken, wasted, dueLevel, openHalfT, arbitratedT, requestT, verdict, spentT, judgedAs, repliedAs, countedIn, countedT, givenUp, endedIn, endedT, chosenT, choiceT, chooseIn, chooseT, startIn, startT, asks, askedIn, askedT}
+use Rattle.every_run.specs.Observer.{heardDelivery, isStored, answerIn, fulfilledT, accepted}
 use Rattle.every_run.specs.Receiving.{Log, noLog, sampledLog, logIn, logNext}
 use Rattle.rules.proofs.Logic.{both-true}
 use Rattle.every_run.proofs.Steps.{Step, refusal, reset, wrote, gave, went, rested, step-of, refused-tally, refused-not, accepted-tally, accepted-so}

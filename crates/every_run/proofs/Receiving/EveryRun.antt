@@ -29,8 +29,8 @@ use Rattle.rules.specs.Definitions.Registers.{BOV, CV}
 use Rattle.rules.specs.declared.Report.{Report}
 use Rattle.rules.specs.Definitions.Slots.{roleIn, heardAs, heard, serviceJudged, receptionJudged, delivers, ending, reportAfter, memoryJudged, coreJudged, followsOn, drivesAs, drives, sampleOf, judgedSlot, sampledSlot, activeSlot, replyVerdict, verdictAs, verdict}
 use Rattle.rules.specs.Definitions.Run.{fresh, answered, next}
-use Rattle.rules.specs.Statements.Tally.{Tally, none}
-use Rattle.rules.specs.Statements.Observer.{accepted}
+use Rattle.every_run.specs.Tally.{Tally, none}
+use Rattle.every_run.specs.Observer.{accepted}
 use Rattle.every_run.proofs.Sending.Beside.{nextT}
 use Rattle.every_run.proofs.Steps.{Step, refusal, went, rested, step-of, refused-not, accepted-next}
 use Rattle.every_run.proofs.Sending.Follow.{follows-activity, follows-reception, follows-error}

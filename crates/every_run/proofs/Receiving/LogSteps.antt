@@ -24,8 +24,8 @@ use Rattle.rules.specs.Definitions.Slots.{heard, ending, memoryJudged, coreJudg
 use Rattle.rules.specs.Definitions.Host.{resetAll, resets, sleeps, coreWritten, serviceAsked, stoppedCore, byteWritten, hostWritten}
 use Rattle.rules.specs.Definitions.Run.{accept, restedSlot, step, next}
 use Rattle.rules.specs.Definitions.Run as run
-use Rattle.rules.specs.Statements.Tally.{Stand, away, between, opening, inside, Tally, isAway, answered}
-use Rattle.rules.specs.Statements.Observer.{accepted}
+use Rattle.every_run.specs.Tally.{Stand, away, between, opening, inside, Tally, isAway, answered}
+use Rattle.every_run.specs.Observer.{accepted}
 use Rattle.every_run.proofs.Sending.Join.{made, serviceIn, serviceOf}
 use Rattle.every_run.proofs.Steps.{Step, refusal, reset, wrote, gave, went, rested, refused-next, refused-not, accepted-next}
 use Rattle.every_run.proofs.Sending.Demand3.{Joined}

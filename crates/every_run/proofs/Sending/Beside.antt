@@ -13,9 +13,9 @@ use Rattle.rules.specs.Definitions.Slots as slot-rule
 use Rattle.rules.specs.Definitions.Slots.{heard, drives, sampleOf}
 use Rattle.rules.specs.Definitions.Host.{resets, sleeps}
 use Rattle.rules.specs.Definitions.Run.{next}
-use Rattle.rules.specs.Statements.Tally.{Answering, Tally, none, countedT, endedT, chooseT, startT, askedT, isAway, boundOf}
-use Rattle.rules.specs.Statements.Observer.{answerIn, fulfilledT, accepted}
-use Rattle.every_run.specs.Sending.{Drives, InSlot, te}
+use Rattle.every_run.specs.Tally.{Answering, Tally, none, countedT, endedT, chooseT, startT, askedT, isAway}
+use Rattle.every_run.specs.Observer.{answerIn, fulfilledT, accepted}
+use Rattle.every_run.specs.Sending.{Drives, InSlot, te, boundOf}
 use Rattle.rules.specs.declared.Controller.{Controller}
 use Rattle.rules.specs.declared.Event.{Event}
 use Rattle.rules.specs.declared.Event.the-variants.{Reset, Write, Read, Slot}

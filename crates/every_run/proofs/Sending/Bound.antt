@@ -25,10 +25,10 @@ use Rattle.rules.proofs.Logic.{both-true}
 use Rattle.rules.specs.declared.Choice.{Choice}
 use Rattle.rules.specs.declared.Choice.the-variants.{Nothing, Lowest}
 use Rattle.rules.specs.declared.Reception.{Reception}
-use Rattle.rules.specs.Statements.Tally as tally
-use Rattle.rules.specs.Statements.Tally.{Stand, away, between, opening, inside, answered, Tally, none, Verdict, goes, contended, failed, sent, answers, Answering, comes, wasted, requestT, repliedAs, dueLevel, verdict, spentT, judgedAs, countedIn, countedT, givenUp, endedIn, endedT, chosenT, choiceT, chooseIn, chooseT, startIn, startT, isAway, asks, askedIn, askedT, openHalfT, arbitratedT, boundOf}
+use Rattle.every_run.specs.Tally as tally
+use Rattle.every_run.specs.Tally.{Stand, away, between, opening, inside, answered, Tally, none, Verdict, goes, contended, failed, sent, answers, Answering, comes, wasted, requestT, repliedAs, dueLevel, verdict, spentT, judgedAs, countedIn, countedT, givenUp, endedIn, endedT, chosenT, choiceT, chooseIn, chooseT, startIn, startT, isAway, asks, askedIn, askedT, openHalfT, arbitratedT}
 use Rattle.every_run.proofs.Sending.Join.{attempting}
-use Rattle.every_run.specs.Sending.{Opens, Origin, own, joined, Drives}
+use Rattle.every_run.specs.Sending.{Opens, Origin, own, joined, Drives, boundOf}
 
 -- slots of the attempt under way
 unfoldable pub taken : Stand → ℕ

@@ -31,8 +31,8 @@ use Rattle.every_run.proofs.Sending.Join.{made, serviceIn, serviceOf, s
 use Rattle.every_run.proofs.Sending.Follow.{isExhausted, te-judged, follows-te, follows-service, written-te, stopped-service, stopped-te}
 use Rattle.every_run.proofs.Sending.Ends.{stopped-is, exhausts-rest, tells}
 use Rattle.every_run.proofs.Ranges.Reach.{fine-next}
-use Rattle.rules.specs.Statements.Tally.{Stand, away, between, opening, inside, answered, Tally, none, taken, wasted, requestT, countedIn, countedT, endedT, askedT, isAway}
-use Rattle.rules.specs.Statements.Observer.{fitting, heardDelivery, isStored, answerIn, waits, fulfilledT, accepted}
+use Rattle.every_run.specs.Tally.{Stand, away, between, opening, inside, answered, Tally, none, taken, wasted, requestT, countedIn, countedT, endedT, askedT, isAway}
+use Rattle.every_run.specs.Observer.{fitting, heardDelivery, isStored, answerIn, waits, fulfilledT, accepted}
 use Rattle.every_run.specs.Settled.{exhaustedIn}
 use Rattle.every_run.specs.Sending.{Drives, InSlot, te}
 use Rattle.every_run.proofs.Sending.Beside.{answerC, seenIn, followIn, afterSlot, endedC, seenT, nextT, Holds}

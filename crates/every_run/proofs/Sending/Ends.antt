@@ -14,9 +14,9 @@ use Rattle.rules.specs.Definitions.Mailbox.{coded}
 use Rattle.rules.specs.Definitions.Attempt.{levelAt, judgeSlot, advance, atStage, betweenAttempts, isBetween}
 use Rattle.rules.specs.Definitions.Service.{resting, stopped, endingOf, retriesOf, reportSending, reportJudged}
 use Rattle.rules.specs.Definitions.Slots.{serviceJudged}
-use Rattle.rules.specs.Statements.Tally as tally
-use Rattle.rules.specs.Statements.Tally.{Stand, away, between, opening, inside, answered, Tally, goes, contended, failed, sent, answers, Answering, comes, repliedAs, verdict, spentT, judgedAs, countedIn, countedT, isAway}
-use Rattle.rules.specs.Statements.Observer.{pausing}
+use Rattle.every_run.specs.Tally as tally
+use Rattle.every_run.specs.Tally.{Stand, away, between, opening, inside, answered, Tally, goes, contended, failed, sent, answers, Answering, comes, repliedAs, verdict, spentT, judgedAs, countedIn, countedT, isAway}
+use Rattle.every_run.specs.Observer.{pausing}
 use Rattle.every_run.specs.Settled.{sentAll, exhaustedIn, abortedIn, retriesT}
 use Rattle.every_run.proofs.Judged as judged
 use Rattle.every_run.proofs.Judged.{Judged, went, lost, broke, done, slot-judged}

@@ -18,7 +18,7 @@ use Rattle.rules.specs.Definitions.Service.{resting, stopped, settled, reportSe
 use Rattle.rules.specs.Definitions.State.{isActive, inMode, serving, idled, idleDue, idleAsked, activated}
 use Rattle.rules.specs.Definitions.Slots.{roleIn, delivers, serviceJudged, ending, reportAfter, chooses, choiceMade, startMade, followsOn}
 use Rattle.rules.specs.Definitions.Host.{modeCommanded, flagsCleared, coreWritten, stoppedCore}
-use Rattle.rules.specs.Statements.Tally.{Stand, away, between, opening, inside, answered, Tally, choiceT, chooseIn, chooseT, startT}
+use Rattle.every_run.specs.Tally.{Stand, away, between, opening, inside, answered, Tally, choiceT, chooseIn, chooseT, startT}
 use Rattle.every_run.proofs.Sending.Join.{made, serviceIn, serviceOf, choose-is, started-is}
 use Rattle.rules.specs.declared.Report.{Report}
 use Rattle.rules.specs.declared.Choice.{Choice}

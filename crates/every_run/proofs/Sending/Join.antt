@@ -25,8 +25,8 @@ use Rattle.rules.specs.Definitions.Slots.{serviceJudged}
 use Rattle.rules.specs.Definitions.Host.{rearCommanded, serviceAsked}
 use Rattle.every_run.proofs.Judged as judged
 use Rattle.every_run.proofs.Judged.{Judged, went, lost, broke, done, slot-judged}
-use Rattle.rules.specs.Statements.Tally as tally
-use Rattle.rules.specs.Statements.Tally.{Stand, away, between, opening, inside, answered, Tally, none, goes, contended, failed, sent, answers, Answering, comes, taken, wasted, requestT, repliedAs, asksAcknowledge, dueLevel, verdict, spentT, judgedAs, countedIn, countedT, givenUp, endedIn, endedT, chosenT, choiceT, startIn, startT, asks, askedIn, askedT, openHalfT, arbitratedT}
+use Rattle.every_run.specs.Tally as tally
+use Rattle.every_run.specs.Tally.{Stand, away, between, opening, inside, answered, Tally, none, goes, contended, failed, sent, answers, Answering, comes, taken, wasted, requestT, repliedAs, asksAcknowledge, dueLevel, verdict, spentT, judgedAs, countedIn, countedT, givenUp, endedIn, endedT, chosenT, choiceT, startIn, startT, asks, askedIn, askedT, openHalfT, arbitratedT}
 use Rattle.rules.specs.declared.Choice.{Choice}
 use Rattle.rules.specs.declared.Choice.the-variants.{Nothing, Lowest}
 use Rattle.rules.specs.declared.Line.{Line}

@@ -13,30 +13,30 @@ use lib.ListN.{length, getD}
 use Rattle.line.specs.Bits.{pick}
 use Rattle.line.specs.Frame.{Frame}
 use Rattle.line.specs.Layout.{partOf, halfOf}
 use Rattle.rules.specs.Definitions.Longest.{longestOf}
 use Rattle.rules.specs.Definitions.Registers.{both, either, command, asksIdle, asksActivation, CV, ACKE, FCSE}
 use Rattle.rules.specs.Definitions.Channels.{replierFor}
 use Rattle.rules.specs.Definitions.Mailbox.{replyFrame}
 use Rattle.rules.specs.Definitions.Reception.{quiet, underWay, readsAsked, replyLow, dataCount}
 use Rattle.rules.specs.Definitions.Hearing.{hearFrame}
 use Rattle.rules.specs.Definitions.Attempt.{inCheck, inAcknowledge}
 use Rattle.rules.specs.Definitions.State.{isActive, inMode}
 use Rattle.rules.specs.Definitions.Slots.{receptionJudged, drives, sampleOf}
 use Rattle.rules.specs.Definitions.Host.{resets, sleeps}
 use Rattle.rules.specs.Definitions.Run.{step, next}
-use Rattle.rules.specs.Statements.Tally.{Stand, away, between, opening, inside, answered, Tally, none, Verdict, goes, contended, failed, sent, answers, Answering, comes, taken, wasted, requestT, openHalfT, verdict, countedT, endedT, chooseT, startT, askedT, isAway}
+use Rattle.every_run.specs.Tally.{Stand, away, between, opening, inside, answered, Tally, none, Verdict, goes, contended, failed, sent, answers, Answering, comes, taken, wasted, requestT, openHalfT, verdict, countedT, endedT, chooseT, startT, askedT, isAway}
 use Rattle.rules.specs.declared.Mode.the-variants.{Idle, Active, Asleep}
 use Rattle.rules.specs.declared.Activity.{Activity}
 use Rattle.rules.specs.declared.Reception.{Reception}
 use Rattle.rules.specs.declared.Choice.{Choice}
 use Rattle.rules.specs.declared.Choice.the-variants as choice
 use Rattle.rules.specs.declared.Delivery.{Delivery}
 use Rattle.rules.specs.declared.Delivery.the-variants.{Nothing, Stored, Overflowed, Spoiled}
 use Rattle.rules.specs.declared.Hearing.{Hearing}
 use Rattle.rules.specs.declared.Hearing.the-variants.{Silent, Follows, Fault, Good}
 use Rattle.rules.specs.declared.Controller.{Controller}
 use Rattle.rules.specs.declared.Event.{Event}
 use Rattle.rules.specs.declared.Event.the-variants.{Reset, Write, Read, Slot}
 
 -- ---- the line between frames
 

@@ -1,0 +1,3 @@
+-- What closed runs show, beside the runs of crates/rules.
+pub mod Seen
+pub mod Claims
