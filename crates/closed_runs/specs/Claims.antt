@@ -1,4 +1,4 @@
--- Closed runs: the tally's numbers, and what a host reads. The closed runs that an edit of crates/rules needs are there.
+-- Closed runs: the tally's numbers, and what a host reads. Those that refuse an edit of crates/rules are in that crate (Courses in its Statements).
 use Prim.Native.Nat.{_+_, _*_}
 use mathlib.Core.Bool.{true}
 use mathlib.Core.List.{[], _∷_, _++_}
@@ -36,7 +36,7 @@ pub record Runs : Type 0 where
   pub bound-of-data : boundOf 30 (framed 8 (0xA5 ∷ [])) ≡ 1
   pub bound-of-a-deferred-reply : boundOf 30 (framed 10 (0xA5 ∷ [])) ≡ 1
 
--- by what a host reads after them and by the level at the pin
+-- closed runs, by what a host reads after them and by the level at the pin
 pub record MoreCourses : Type 0 where
   -- R = 15: fifteen errors leave TE 0, the sixteenth raises it, with CHER and CHTx; 0x05, 0x06, 0x09, and channel 0's status
   pub fifteen-errors : sees (setUp ++ (Write 0x01 0xF3 ∷ failures 15)) (0x05 ∷ 0x06 ∷ 0x09 ∷ 0x13 ∷ []) ≡ 0xF0 ∷ 0x00 ∷ 0x80 ∷ 0x08 ∷ []
@@ -58,7 +58,7 @@ pub record MoreCourses : Type 0 where
   -- a link: the pointer and length of channel 13, the status bits of channel 1; a link to channel 14 takes nothing
   pub linked : sees (heardBy (Write 0x1A 0x0D ∷ Write 0x1B 0x00 ∷ Write 0x7A 0x20 ∷ Write 0x7B 0x1A ∷ []) (slots asking)) (0x06 ∷ 0x09 ∷ 0x1B ∷ 0x7B ∷ 0xA0 ∷ 0xA1 ∷ 0xA2 ∷ []) ≡ 0x01 ∷ 0x82 ∷ 0x01 ∷ 0x1A ∷ 0x82 ∷ 0xA5 ∷ 0x3C ∷ []
   pub linked-to-14 : sees (heardBy (Write 0x1A 0x0E ∷ Write 0x1B 0x00 ∷ []) (slots asking)) (0x09 ∷ 0x1B ∷ []) ≡ 0x80 ∷ 0x00 ∷ []
-  -- the same of the high bits; under a mask one tag bits are compared
+  -- high tag bits under a mask zero are not compared, and rewritten with the identifier received; under a mask one tag bits are compared
   pub high-bits-masked : sees (heardBy (Write 0x18 0x52 ∷ Write 0x1E 0x00 ∷ []) (slots asking)) (0x09 ∷ 0x18 ∷ 0x19 ∷ 0x1B ∷ []) ≡ 0x82 ∷ 0xF2 ∷ 0x39 ∷ 0x19 ∷ []
   pub high-bits-compared : sees (heardBy (Write 0x18 0x52 ∷ []) (slots (framed 8 []))) (0x09 ∷ 0x18 ∷ 0x1B ∷ []) ≡ 0x80 ∷ 0x52 ∷ 0x18 ∷ []
   pub low-bits-compared : sees (heardBy (Write 0x19 0x99 ∷ []) (slots (framed 8 []))) (0x09 ∷ 0x19 ∷ 0x1B ∷ []) ≡ 0x80 ∷ 0x99 ∷ 0x18 ∷ []
@@ -94,7 +94,7 @@ pub record MoreCourses : Type 0 where
   pub every-write : refuses [] (writesFrom 240 0x10 0xFF) ≡ replicate 240 0
   -- M_L 31 sends thirty bytes
   pub longest-sent-whole : sees (Write 0x10 0xF2 ∷ Write 0x11 0x38 ∷ Write 0x13 0xF8 ∷ Write 0x01 0x23 ∷ Write 0x03 0x10 ∷ (ones 12 ++ levels (slots (framed 8 (replicate 30 0))))) (0x09 ∷ 0x13 ∷ []) ≡ 0x88 ∷ 0xFA ∷ []
-  -- 02, Req 01. The last slot of the frame that answers a request, and none before it, ends the attempt
+  -- 02, Req 01. Before the last slot of its answer an answered request is not done
   pub not-answered-yet : sees (heardBy (Write 0x19 0x3B ∷ Write 0x01 0x23 ∷ []) (take 79 (slots (framed 10 (0xA5 ∷ 0x3C ∷ []))))) (0x04 ∷ 0x09 ∷ 0x1B ∷ []) ≡ 0x03 ∷ 0x80 ∷ 0x18 ∷ []
   -- an answer that does not fit is an error of the attempt, BOV
   pub answer-too-long : sees (heardBy (Write 0x19 0x3B ∷ Write 0x01 0x23 ∷ Write 0x1B 0x10 ∷ []) (slots (framed 10 (0xA5 ∷ 0x3C ∷ [])))) (0x05 ∷ 0x07 ∷ 0x09 ∷ 0x1B ∷ []) ≡ 0x11 ∷ 0x20 ∷ 0x84 ∷ 0x14 ∷ []
@@ -102,7 +102,7 @@ pub record MoreCourses : Type 0 where
   pub deferred-with-data : sees (Write 0x10 0xF2 ∷ Write 0x11 0x3A ∷ Write 0x12 0x7E ∷ Write 0x13 0x19 ∷ Write 0xFF 0xA5 ∷ Write 0x80 0x3C ∷ Write 0x01 0x23 ∷ Write 0x03 0x10 ∷ (ones 12 ++ levels (slots (framed 10 (0xA5 ∷ 0x3C ∷ []))))) (0x09 ∷ 0x13 ∷ []) ≡ 0x88 ∷ 0x1B ∷ []
   -- an answer that does not fit in the last attempt: TE, CHER and CHTx at the request's channel
   pub answer-exhausts : sees (heardBy (Write 0x19 0x3B ∷ Write 0x01 0x03 ∷ Write 0x1B 0x10 ∷ []) (slots (framed 10 (0xA5 ∷ 0x3C ∷ [])))) (0x04 ∷ 0x05 ∷ 0x06 ∷ 0x09 ∷ 0x1B ∷ []) ≡ 0x00 ∷ 0x01 ∷ 0x01 ∷ 0x94 ∷ 0x16 ∷ []
-  -- it does with CHER 1 too; 1,0,1,1 does not, nor one with another tag, with a bad link or of a higher channel
+  -- 1,0,1,0 of a lower channel that matches bars a reply with CHER 1 too; 1,0,1,1 does not, nor one with another tag, with a bad link or of a higher channel
   pub reply-not-barred : pin (heardBy (Write 0x19 0x3A ∷ Write 0x1B 0x1B ∷ Write 0x20 0xF2 ∷ Write 0x21 0x3A ∷ Write 0x22 0x10 ∷ Write 0x23 0x18 ∷ Write 0x26 0xFF ∷ Write 0x27 0xF0 ∷ []) (take 28 (slots (framed 11 [])))) ≡ 0
   pub reply-barred-in-error : pin (heardBy (Write 0x19 0x3A ∷ Write 0x1B 0x1E ∷ Write 0x20 0xF2 ∷ Write 0x21 0x3A ∷ Write 0x22 0x10 ∷ Write 0x23 0x18 ∷ Write 0x26 0xFF ∷ Write 0x27 0xF0 ∷ []) (take 28 (slots (framed 11 [])))) ≡ 1
   pub reply-barred-by-no-other : pin (heardBy (Write 0x19 0x2A ∷ Write 0x1B 0x1A ∷ Write 0x20 0xF2 ∷ Write 0x21 0x3A ∷ Write 0x22 0x10 ∷ Write 0x23 0x18 ∷ Write 0x26 0xFF ∷ Write 0x27 0xF0 ∷ []) (take 28 (slots (framed 11 [])))) ≡ 0

@@ -1,4 +1,4 @@
--- The interrupt line: status and enable share a one (Statements/Interrupts.antt).
+-- The interrupt line: status and enable share a one (specs/Interrupts.antt).
 use Prim.Native.Nat.{ℕ, _+_, _*_, _/_, _%_, _≤_, _<_, min}
 use mathlib.Core.Bool.{Bool, true, false, not, false≢true}
 use mathlib.Core.Path.{_≡_, refl, ap, _∙_, sym}

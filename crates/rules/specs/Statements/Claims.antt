@@ -38,8 +38,8 @@ pub record Matching : Type 0 where
   -- "Lowest channel number wins": the one that is found passes, and none below it does
   pub wins : (passes : ℕ → Bool) (left from c : ℕ) → lowest passes left from ≡ Lowest c → (passes c ≡ true) × ((k : ℕ) → from ≤ k → k < c → passes k ≡ false)
 
--- closed runs, by what a host reads after them, by the level at the pin, and by the state: each comes out otherwise under an edit of must-fail/ at least.
--- The others are in crates/closed_runs
+-- closed runs, by what a host reads after them, by the level at the pin and by the state. Under each edit of must-fail/ that no law refuses one of them comes out
+-- otherwise. Further closed runs are in crates/closed_runs
 pub record Courses : Type 0 where
   -- tag and R written after the choice do not touch the service; the slot of a loss counts; a refused slot leaves the mode
   pub frame-kept : drives (ran fresh (setUp ++ (ones 5 ++ (Write 0x10 0x02 ∷ (ones 7 ++ levels (take 10 (slots sent)))))) .core) ≡ 1
@@ -111,14 +111,14 @@ pub record Courses : Type 0 where
   pub longest-sent : sees (offered 0x38 0xF8) (0x04 ∷ 0x05 ∷ []) ≡ 0x02 ∷ 0x00 ∷ []
   pub no-reply-yet : sees (offered 0x3A 0x08) (0x04 ∷ 0x05 ∷ []) ≡ 0x02 ∷ 0x01 ∷ []
   pub cher-1 : sees (offered 0x38 0x0C) (0x04 ∷ 0x05 ∷ []) ≡ 0x02 ∷ 0x01 ∷ []
-  -- a data frame with EXT 0 is no fault
+  -- EXT 0: R/W 1 and RTR 1 with data is no fault
   pub no-request : sees (heardBy [] (slots (framed 3 (0xA5 ∷ [])))) (0x07 ∷ 0x09 ∷ 0x1B ∷ []) ≡ 0x00 ∷ 0x80 ∷ 0x18 ∷ []
   -- the count in the status byte has five bits, the retry setting four
   pub count-of-thirty : statusByte 0 30 ≡ 30
   pub setting-of-fifteen : retrySetting 0xF3 ≡ 15
   -- 0x04 has SPG in bit 6; no read shows it, for none is accepted asleep
   pub sleeping : lineStatusOf (ran fresh (Write 0x03 0x40 ∷ []) .core) ≡ 0x40
-  -- the interrupt line: RST is enabled after a reset; cleared, it asserts nothing
+  -- after a reset RST is set and enabled, and the interrupt line is asserted; with RST cleared it is not
   pub line-asserted : interruptLine (ran fresh []) ≡ true
   pub line-quiet : interruptLine (ran fresh (Write 0x0B 0x80 ∷ [])) ≡ false
   -- the sender: CV in the end of frame, in the start and in the end of data, FCSE in the check, ACKE in the first acknowledge slot
