@@ -278,7 +278,7 @@ pub fn matching_claims()
     ensures { λ _. ⌜ claims.Matching ⌝ }
 {}
 
-// Holds the closed runs that the edits of must-fail/ break; it does nothing.
+// Holds the closed runs that stand against the edits of must-fail/; it does nothing.
 pub fn run_claims()
     ensures { λ _. ⌜ claims.Courses ⌝ }
 {}
