@@ -4,7 +4,7 @@ use mathlib.Core.Bool.{Bool, true, false, false≢true}
 use mathlib.Core.List.{List, [], _∷_, _++_, append-assoc, append-nil}
 use mathlib.Core.Path.{_≡_, refl, ap, _∙_, sym, subst}
 use native.Mathlib.Omega.{arith}
-use borrow.Author.Tests.{eq-eqb, ne-eqb, le-ltb, le-leb, lt-leb, eqb-true, eqb-false, ltb-false, leb-true}
+use borrow.Author.Tests.{eq-eqb, ne-eqb, le-leb, lt-leb, eqb-true, eqb-false, ltb-false, leb-true}
 use lib.Dec.{eqb, ltb, leb}
 use lib.ListN.{length, take, drop, length-append, length-drop, take-append-drop}
 use lib.Seq.{take-at, drop-at, drop-drop, take-add, length-take-le}
@@ -51,7 +51,9 @@ code-below (one a (one b (one c (one {x = d} h s)))) =
 levels-below : {s : List ℕ} → Below 2 s → levels s ≡ true
 unfolding levels
 levels-below none = refl
-levels-below (one {x = x} h s) = rw (le-ltb 1 x (omega arith)) (levels-below s)
+levels-below (one {x = zero} h s) = levels-below s
+levels-below (one {x = suc zero} h s) = levels-below s
+levels-below (one {x = suc (suc x)} h s) = absurd (omega arith)
 
 pub below-levels : (s : List ℕ) → levels s ≡ true → Below 2 s
 unfolding levels
@@ -130,7 +132,7 @@ module _ (f : Frame) where
   unfolding right carried
   right-back =
       let m : length (carried f) - 15 ≡ length (covered f) = omega (arith, carried-length f, covered-length f) in
-      rw (m, take-at (covered f) (bits 15 (check (covered f))) (length (covered f)) refl, drop-at (covered f) (bits 15 (check (covered f))) (length (covered f)) refl, value-bits 15 (check (covered f)) (check-below (covered f)))
+      simp (m, take-at (covered f) (bits 15 (check (covered f))) (length (covered f)) refl, drop-at (covered f) (bits 15 (check (covered f))) (length (covered f)) refl, value-bits 15 (check (covered f)) (check-below (covered f)))
       (eq-eqb (check (covered f)) (check (covered f)) refl)
 
   slots-below : Below 2 (slots f)
@@ -155,7 +157,7 @@ module _ (longest : ℕ) (f : Frame) (fits : Fits longest f) where
   unfolding whole nibbles most
   whole-back =
       let n : ℕ = length (f .bytes) in
-      rw (carried-length f, eq-eqb ((31 + 8 * n) / 4 % 2) 1 (omega arith), le-leb 7 ((31 + 8 * n) / 4) (omega arith))
+      simp (carried-length f, eq-eqb ((31 + 8 * n) / 4 % 2) 1 (omega arith), le-leb 7 ((31 + 8 * n) / 4) (omega arith))
       (le-leb ((31 + 8 * n) / 4) (7 + 2 * longest) (omega (arith, fits .size)))
 
   -- decoding a frame's slots gives it back

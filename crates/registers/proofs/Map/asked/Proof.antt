@@ -8,4 +8,4 @@ pub asked-spec : {M : Type 1} → statement M
 unfolding asked asksReset asksSleep asksIdle asksActivation asksRearbitration
 asked-spec =
     tie.close (tie.spec
-    (λ c. rw (masked (c .args .command) 7, masked (c .args .command) 6, masked (c .args .command) 5, masked (c .args .command) 4, masked (c .args .command) 3)))
+    (λ c. simp (masked (c .args .command) 7, masked (c .args .command) 6, masked (c .args .command) 5, masked (c .args .command) 4, masked (c .args .command) 3)))
