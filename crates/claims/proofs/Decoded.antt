@@ -19,7 +19,7 @@ use Rattle.rules.specs.declared.Hearing.the-variants.{Good}
 use Rattle.rules.specs.declared.Controller.{Controller}
 use Rattle.rules.specs.declared.Event.{Event}
 use Rattle.rules.specs.declared.Event.the-variants.{Reset, Write, Read, Slot}
-use Rattle.claims.specs.Decoded.{heardSoFar, Taken, Decodable, Decodes, DecodesIn, Decoded}
+use Rattle.claims.specs.Decoded.{heardSoFar, Delivered, Decodable, Decodes, DecodesIn, Decoded}
 
 no-frame : {f : Frame} {r : Refusal} → refused r ≡ frame f → ⊥
 no-frame e = let z : _≡_ {A = ℕ} 0 1 = cc in omega arith
@@ -34,7 +34,7 @@ module _ (c : Controller) (l : Log) (levels : ℕ) (d : Delivers c l levels) whe
   slot-good : hears c levels ≡ Good → Decodable c l levels
   slot-good h = let t = d .good h in record { which = t .frame; decodes = back _ (t .frame) (t .fits) (t .whole) }
 
-  slot-taken : (f : Frame) → reading (longestOf (c .core)) (heardSoFar c l levels) ≡ frame f → Taken c l levels f
+  slot-taken : (f : Frame) → reading (longestOf (c .core)) (heardSoFar c l levels) ≡ frame f → Delivered c l levels f
   slot-taken f e =
       let k = sound (heardSoFar c l levels) f e in
       let h : hears c levels ≡ Good = d .complete f (k .0) (k .1) in

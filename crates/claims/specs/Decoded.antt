@@ -1,5 +1,5 @@
 -- Delivery in the codec's own words (demand 2): what a slot of another module's frame does is what decoding its samples gives. One claim about the list of events.
---   heardSoFar == the samples since the frame's start, that of the slot included        Taken == they decode to a valid frame, and the memory map shows it
+--   heardSoFar == the samples since the frame's start, that of the slot included        Delivered == they decode to a valid frame, and the memory map shows it
 --   Decodes == what holds of a slot of another module's frame        Decoded == what holds of a list of events, from a controller and a log on
 use Prim.Native.Nat.{ℕ, _/_, _%_, _≤_}
 use mathlib.Core.Bool.{true}
@@ -28,7 +28,7 @@ abbrev pub heardSoFar : Controller → Log → ℕ → List ℕ
 heardSoFar c l levels = l .samples ++ (sampleOf c levels ∷ [])
 
 -- frame f is valid, the samples are its slots and no other frame's, it is delivered in this slot, and the memory map shows it
-pub record Taken (c : Controller) (l : Log) (levels : ℕ) (f : Frame) : Type 0 where
+pub record Delivered (c : Controller) (l : Log) (levels : ℕ) (f : Frame) : Type 0 where
   pub valid : Valid (taker l f) f
   pub whole : heardSoFar c l levels ≡ slots f
   pub one : (g : Frame) → Fits (longestOf (c .core)) g → heardSoFar c l levels ≡ slots g → g ≡ f
@@ -46,7 +46,7 @@ pub record Decodable (c : Controller) (l : Log) (levels : ℕ) : Type 0 where
 
 pub record Decodes (c : Controller) (l : Log) (levels : ℕ) : Type 0 where
   -- where the samples decode to a frame, that frame is delivered
-  pub taken : (f : Frame) → reading (longestOf (c .core)) (heardSoFar c l levels) ≡ frame f → Taken c l levels f
+  pub taken : (f : Frame) → reading (longestOf (c .core)) (heardSoFar c l levels) ≡ frame f → Delivered c l levels f
   -- and what is delivered is what they decode to
   pub good : hears c levels ≡ Good → Decodable c l levels
   -- where they don't, no byte of the mailbox changes

@@ -13,7 +13,7 @@ use Rattle.rules.specs.Definitions.Host.{resetAll, hostWritten, byteRead}
 use Rattle.rules.specs.Definitions.Run.{refuse, accept, unlessRefused, pinReset, hostWrite, hostRead, answered, restedSlot, slot, step, next}
 use Rattle.every_run.specs.Tally.{Tally}
 use Rattle.every_run.specs.Observer.{accepted}
-use Rattle.every_run.proofs.Sending.Beside.{seenIn, followIn, seenT, nextT}
+use Rattle.every_run.proofs.Sending.Beside.{seenIn, followT, seenT, nextT}
 use Rattle.rules.specs.declared.Controller.{Controller}
 use Rattle.rules.specs.declared.Answer.{Answer}
 use Rattle.rules.specs.declared.Refusal.{Refusal}
@@ -113,6 +113,6 @@ module _ (c : Controller) (t : Tally) where
   unfolding seenT
   accepted-seen e value d h = rw (accepted-so e value d h)
 
-  pub accepted-tally : (e : Event) (value : ℕ) (d : Controller) → step c e ≡ accept value d → nextT c t e ≡ followIn c t e
+  pub accepted-tally : (e : Event) (value : ℕ) (d : Controller) → step c e ≡ accept value d → nextT c t e ≡ followT c t e
   unfolding nextT
   accepted-tally e value d h = rw (accepted-so e value d h)

@@ -1,6 +1,6 @@
 -- The interrupt line, and the events that raise the six status bits (01, Memory map, Receiving and Sending; 02, Req 01).
 --   Shared == two bytes share a one        Places == where the bits stand in 0x09
---   Resets, Exhausts, Completes, Spoils, Stores == the events that raise RST, TE, TOK, RE, and ROK or RNOK
+--   IsReset, Exhausts, Completes, Spoils, Stores == the events that raise RST, TE, TOK, RE, and ROK or RNOK
 --   Raised == these events leave the bit 1, and no other event turns it from 0 to 1
 use Prim.Native.Nat.{ℕ, _<_}
 use mathlib.Core.Bool.{Bool, true, false}
@@ -18,7 +18,7 @@ use Rattle.rules.specs.Definitions.Slots.{roleIn, heard, ending, sampleOf}
 use Rattle.rules.specs.Definitions.Host.{byteRead, interruptLine}
 use Rattle.rules.specs.Definitions.Run.{fresh, next, after}
 use Rattle.every_run.specs.Observer.{accepted}
-use Rattle.every_run.specs.OwnFrames.{verdictIn, replyIn}
+use Rattle.every_run.specs.OwnFrames.{verdictIn, replyVerdictIn}
 use Rattle.rules.specs.declared.Flags.{Flags}
 use Rattle.rules.specs.declared.Hearing.{Hearing}
 use Rattle.rules.specs.declared.Hearing.the-variants.{Fault, Good}
@@ -82,17 +82,17 @@ abbrev pub hearingIn : Controller → ℕ → Hearing
 hearingIn c levels = hearFrame (c .core .reception) (longestOf (c .core)) (sampleOf c levels)
 
 -- "n + 1 is at most M_L"
-abbrev pub fitting : Controller → Bool
-fitting c = fits (c .core .reception .winner) (dataCount (c .core .reception .nibbles))
+abbrev pub fittingIn : Controller → Bool
+fittingIn c = fits (c .core .reception .winner) (dataCount (c .core .reception .nibbles))
 
 -- RAK of the frame under way
 abbrev pub rak : Controller → Bool
 rak c = acknowledgeAsked (getD (c .core .reception .bytes) 1 0)
 
 -- RST: "Reset, by pin or GRES", which is bit 7 of a command
-pub data Resets (c : Controller) : Event → Type 0 where
-  by-pin : accepted c Reset ≡ true → Resets c Reset
-  by-command : {address value : ℕ} → accepted c (Write address value) ≡ true → address ≡ 0x03 → bitAt value 7 ≡ 1 → Resets c (Write address value)
+pub data IsReset (c : Controller) : Event → Type 0 where
+  by-pin : accepted c Reset ≡ true → IsReset c Reset
+  by-command : {address value : ℕ} → accepted c (Write address value) ≡ true → address ≡ 0x03 → bitAt value 7 ≡ 1 → IsReset c (Write address value)
 
 -- TE: the service ends exhausted in the slot
 pub data Exhausts (c : Controller) : Event → Type 0 where
@@ -106,17 +106,17 @@ pub data LastError (c : Controller) : Event → Type 0 where
 -- TOK: the attempt has sent its last slot, or its answered request counts as success; or the immediate reply has sent its last slot
 pub data Completes (c : Controller) : Event → Type 0 where
   completes : {levels : ℕ} → Sampled c levels → verdictIn c levels ≡ Done → Completes c (Slot levels)
-  replied : {levels : ℕ} → Sampled c levels → replyIn c levels ≡ Done → Completes c (Slot levels)
+  replied : {levels : ℕ} → Sampled c levels → replyVerdictIn c levels ≡ Done → Completes c (Slot levels)
 
 -- RE: a fault, or a good end that does not fit; or an error in the immediate reply
 pub data Spoils (c : Controller) : Event → Type 0 where
   fault : {levels : ℕ} (code : ℕ) → Received c levels → hearingIn c levels ≡ Fault code → Spoils c (Slot levels)
-  overflow : {levels : ℕ} → Received c levels → hearingIn c levels ≡ Good → fitting c ≡ false → Spoils c (Slot levels)
-  broken : {levels : ℕ} (code : ℕ) → Sampled c levels → replyIn c levels ≡ Failed code → Spoils c (Slot levels)
+  overflow : {levels : ℕ} → Received c levels → hearingIn c levels ≡ Good → fittingIn c ≡ false → Spoils c (Slot levels)
+  broken : {levels : ℕ} (code : ℕ) → Sampled c levels → replyVerdictIn c levels ≡ Failed code → Spoils c (Slot levels)
 
 -- ROK and RNOK: a good end that fits, with RAK as asked
 pub data Stores (asked : Bool) (c : Controller) : Event → Type 0 where
-  stores : {levels : ℕ} → Received c levels → hearingIn c levels ≡ Good → fitting c ≡ true → rak c ≡ asked → Stores asked c (Slot levels)
+  stores : {levels : ℕ} → Received c levels → hearingIn c levels ≡ Good → fittingIn c ≡ true → rak c ≡ asked → Stores asked c (Slot levels)
 
 pub record Raised (bit : Flags → Bool) (Cause : Controller → Event → Type 0) (c : Controller) : Type 0 where
   pub raised : (e : Event) → Cause c e → bit (flagsOf (next c e)) ≡ true
@@ -135,7 +135,7 @@ pub record Interrupts : Type 0 where
   pub enable-read : (c : Controller) → byteRead c interruptEnable ≡ enableOf c
   pub places : (f : Flags) → Places f
   -- "Reset, by pin or GRES, leaves both and resets the rest to idle mode": with RST 1 (document 000)
-  pub rst : (c : Controller) → Raised (λ f. f .rst) Resets c
+  pub rst : (c : Controller) → Raised (λ f. f .rst) IsReset c
   -- "After error R + 1: TE": in every reached state; Claims.Sending says the same of its tally's count
   pub te : (es : List Event) → Raised (λ f. f .te) Exhausts (after fresh es)
   pub te-sound : (es : List Event) (e : Event) → Exhausts (after fresh es) e → LastError (after fresh es) e

@@ -294,14 +294,14 @@ seenIn c o (Slot levels) = pick (isActive (o .activity .mode)) (countedT (o .tal
 unfoldable pub seenO : Controller → Observer → Event → Tally
 seenO c o e = pick (accepted c e) (seenIn c o e) (o .tally)
 
-unfoldable pub followIn : Controller → Observer → Event → Observer
-followIn c o Reset = atReset
-followIn c o (Write address value) = writtenO o address (value % 256)
-followIn c o (Read address) = o
-followIn c o (Slot levels) =
+unfoldable pub followO : Controller → Observer → Event → Observer
+followO c o Reset = atReset
+followO c o (Write address value) = writtenO o address (value % 256)
+followO c o (Read address) = o
+followO c o (Slot levels) =
     pick (isActive (o .activity .mode))
     (goesOnO (idleO (sampledO o (longestOf (c .core)) (drives (c .core)) (sampleOf c levels) (next c (Slot levels) .memory))) (longestOf (c .core)) (next c (Slot levels) .memory))
     o
 
 unfoldable pub nextO : Controller → Observer → Event → Observer
-nextO c o e = pick (accepted c e) (followIn c o e) o
+nextO c o e = pick (accepted c e) (followO c o e) o

@@ -1,6 +1,6 @@
 -- The model's own frame, over every run (01, Receiving: "The model's own frame, sent whole or ended by an error, is not stored, touches no receiving channel and is never
 -- acknowledged by the model"). An immediate reply, "unless lost, is the model's own frame" (02, Req 01).
---   sends, replies == the model drives a level of its own frame, or of its immediate reply, in the slot to come        verdictIn, replyIn == what the slot's sample is for it
+--   sends, replies == the model drives a level of its own frame, or of its immediate reply, in the slot to come        verdictIn, replyVerdictIn == what the slot's sample is for it
 --   statusAt, replyAt == the one byte of the map that a service marks, and a reply        Own, OwnReply == what holds of a slot, Between of any other event
 --   OwnOver == what holds of a list of events, from a controller on        OwnFrames == the claim over every run
 use Prim.Native.Nat.{ℕ, _+_, _*_, _/_, _%_, _≤_}
@@ -35,8 +35,8 @@ replies c = c .core .reply .going
 abbrev pub verdictIn : Controller → ℕ → Verdict
 verdictIn c levels = verdict (c .core) (sampleOf c levels)
 
-abbrev pub replyIn : Controller → ℕ → Verdict
-replyIn c levels = replyVerdict (roleIn (c .core)) (c .core) (sampleOf c levels)
+abbrev pub replyVerdictIn : Controller → ℕ → Verdict
+replyVerdictIn c levels = replyVerdict (roleIn (c .core)) (c .core) (sampleOf c levels)
 
 -- +3 of the channel in service, which holds M_L, CHER, CHTx and CHRx
 abbrev pub statusAt : Controller → ℕ
@@ -84,16 +84,16 @@ pub record OwnReply (c : Controller) (levels : ℕ) : Type 0 where
   pub mailbox : replies c ≡ true → (a : ℕ) → 0x80 ≤ a → byteAt (next c (Slot levels)) a ≡ byteAt c a
   pub elsewhere : replies c ≡ true → (a : ℕ) → (a ≡ replyAt c → ⊥) → byteAt (next c (Slot levels)) a ≡ byteAt c a
   pub status : replies c ≡ true → byteAt (next c (Slot levels)) (replyAt c) / 8 ≡ byteAt c (replyAt c) / 8
-  pub going : replies c ≡ true → replyIn c levels ≡ Goes → next c (Slot levels) .memory ≡ c .memory
-  pub lost : replies c ≡ true → replyIn c levels ≡ Lost → next c (Slot levels) .memory ≡ c .memory
+  pub going : replies c ≡ true → replyVerdictIn c levels ≡ Goes → next c (Slot levels) .memory ≡ c .memory
+  pub lost : replies c ≡ true → replyVerdictIn c levels ≡ Lost → next c (Slot levels) .memory ≡ c .memory
   -- "never acknowledged by the model": both acknowledge slots of the reply are driven recessive
   pub first : replies c ≡ true → c .core .reply .at ≡ 50 + 10 * c .core .reply .frame .n → drives (c .core) ≡ 1
   pub second : replies c ≡ true → c .core .reply .at ≡ 51 + 10 * c .core .reply .frame .n → drives (c .core) ≡ 1
   -- and in the slot that ends it nothing of it is left that a later slot could store or acknowledge
-  pub over : accepted c (Slot levels) ≡ true → isActive (c .core .activity .mode) ≡ true → replies c ≡ true → Ended (replyIn c levels)
+  pub over : accepted c (Slot levels) ≡ true → isActive (c .core .activity .mode) ≡ true → replies c ≡ true → Ended (replyVerdictIn c levels)
       → underWay (next c (Slot levels) .core .reception .place) ≡ false
   -- till then, or till it is lost to another module's frame, it stays the model's own: each of its slots is one of these
-  pub goes-on : accepted c (Slot levels) ≡ true → isActive (c .core .activity .mode) ≡ true → replies c ≡ true → replyIn c levels ≡ Goes
+  pub goes-on : accepted c (Slot levels) ≡ true → isActive (c .core .activity .mode) ≡ true → replies c ≡ true → replyVerdictIn c levels ≡ Goes
       → replies (next c (Slot levels)) ≡ true
 
 -- any other event leaves an attempt or a reply under way as it is, or leaves no frame under way

@@ -84,12 +84,12 @@ abbrev pub role : Controller → Role
 role c = roleIn (c .core)
 
 -- a good frame that no channel takes leaves 0x07; an answer "where none takes it" is CV (02, Req 01)
-unfoldable pub untaken : Role → ℕ → ℕ
-untaken Nobody x = x
-untaken Receiver x = x
-untaken Sender x = x
-untaken Asker x = CV
-untaken Replier x = x
+unfoldable pub untakenCode : Role → ℕ → ℕ
+untakenCode Nobody x = x
+untakenCode Receiver x = x
+untakenCode Sender x = x
+untakenCode Asker x = CV
+untakenCode Replier x = x
 
 -- ---- a slot
 
@@ -117,7 +117,7 @@ pub record Taken (c : Controller) (l : Log) (levels : ℕ) : Type 0 where
   pub elsewhere : (a : ℕ) → (a ≡ statusAt c → ⊥) → getD (next c (Slot levels) .memory) a 0 ≡ getD (received (c .memory) (taker l frame) frame) a 0
   pub status : (getD (next c (Slot levels) .memory) (statusAt c) 0 / 8 ≡ getD (received (c .memory) (taker l frame) frame) (statusAt c) 0 / 8)
       × (getD (next c (Slot levels) .memory) (statusAt c) 0 % 2 ≡ getD (received (c .memory) (taker l frame) frame) (statusAt c) 0 % 2)
-  pub error : next c (Slot levels) .core .report .error ≡ errorAfter (c .core .report .error) (untaken (role c) (c .core .report .error)) (taker l frame) frame
+  pub error : next c (Slot levels) .core .report .error ≡ errorAfter (c .core .report .error) (untakenCode (role c) (c .core .report .error)) (taker l frame) frame
 
 -- a slot of a frame that another module sends
 pub record Delivers (c : Controller) (l : Log) (levels : ℕ) : Type 0 where

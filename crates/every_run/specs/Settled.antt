@@ -66,11 +66,11 @@ deliveredMap Stored m r = memoryStored m r
 deliveredMap Overflowed m r = markedCher m (r .winner .channel)
 deliveredMap Spoiled m r = markedCher m (r .winner .channel)
 
-unfoldable pub isSpoiled : Delivery → Bool
-isSpoiled Nothing = false
-isSpoiled Stored = false
-isSpoiled Overflowed = true
-isSpoiled Spoiled = true
+unfoldable pub marksCher : Delivery → Bool
+marksCher Nothing = false
+marksCher Stored = false
+marksCher Overflowed = true
+marksCher Spoiled = true
 
 -- ---- a reply of the model's own (02, Req 01)
 
@@ -125,11 +125,11 @@ module _ (c : Controller) (o : Observer) (levels : ℕ) where
   abbrev pub judgedIn : Tally
   judgedIn = countedT (o .tally) (drives (c .core)) (sampleOf c levels) (answerO o (longestOf (c .core)) (sampleOf c levels))
 
-  abbrev pub hearingIn : Hearing
-  hearingIn = hearsO o (longestOf (c .core)) (drives (c .core)) (sampleOf c levels)
+  abbrev pub hearingO : Hearing
+  hearingO = hearsO o (longestOf (c .core)) (drives (c .core)) (sampleOf c levels)
 
   abbrev pub deliveryIn : Delivery
-  deliveryIn = deliveredIn (o .tally .stand) (o .reply) hearingIn (o .frame)
+  deliveryIn = deliveredIn (o .tally .stand) (o .reply) hearingO (o .frame)
 
   -- a reply of the model's own, by how the sample ends it
   abbrev pub repliedIn : Replied
@@ -137,7 +137,7 @@ module _ (c : Controller) (o : Observer) (levels : ℕ) where
 
   -- a service is chosen: none once the sample's effects are taken, one after the slot
   abbrev pub chosenIn : Bool
-  chosenIn = both (either (fulfilledO o hearingIn) (isAway (endedT judgedIn .stand))) (not (isAway (nextO c o (Slot levels) .tally .stand)))
+  chosenIn = both (either (fulfilledO o hearingO) (isAway (endedT judgedIn .stand))) (not (isAway (nextO c o (Slot levels) .tally .stand)))
 
 -- ---- the memory map
 
@@ -155,7 +155,7 @@ memoryO c o (Read address) = c .memory
 memoryO c o (Slot levels) =
     pick (isActive (o .activity .mode))
     (repliedMap (repliedIn c o levels)
-    (pick (fulfilledO o (hearingIn c o levels)) (deliveredMap (deliveryIn c o levels) (c .memory) (o .frame))
+    (pick (fulfilledO o (hearingO c o levels)) (deliveredMap (deliveryIn c o levels) (c .memory) (o .frame))
     (endedMap (o .tally) (judgedIn c o levels) (deliveredMap (deliveryIn c o levels) (c .memory) (o .frame)))))
     (c .memory)
 
@@ -210,15 +210,15 @@ unfoldable pub overflows : Hearing → Delivery → Bool
 overflows Silent d = false
 overflows Follows d = false
 overflows (Fault code) d = false
-overflows Good d = isSpoiled d
+overflows Good d = marksCher d
 
 -- a request answered by a frame that "none takes (CV, at the end of a good frame)" (02, Req 01)
-unfoldable pub untaken : Stand → Hearing → Delivery → Bool
-untaken away h d = false
-untaken between h d = false
-untaken (opening start) h d = false
-untaken (inside start levels) h d = false
-untaken (answered start n) h d = both (isGood h) (isNothing d)
+unfoldable pub untakenO : Stand → Hearing → Delivery → Bool
+untakenO away h d = false
+untakenO between h d = false
+untakenO (opening start) h d = false
+untakenO (inside start levels) h d = false
+untakenO (answered start n) h d = both (isGood h) (isNothing d)
 
 unfoldable pub errorO : Controller → Observer → Event → ℕ
 errorO c o Reset = 0
@@ -226,8 +226,8 @@ errorO c o (Write address value) = pick (resets address (value % 256)) 0 (c .cor
 errorO c o (Read address) = c .core .report .error
 errorO c o (Slot levels) =
     pick (isActive (o .activity .mode))
-    (pick (untaken (o .tally .stand) (hearingIn c o levels) (deliveryIn c o levels)) CV
-    (pick (overflows (hearingIn c o levels) (deliveryIn c o levels)) BOV (codeHeard (hearingIn c o levels) (c .core .report .error))))
+    (pick (untakenO (o .tally .stand) (hearingO c o levels) (deliveryIn c o levels)) CV
+    (pick (overflows (hearingO c o levels) (deliveryIn c o levels)) BOV (codeHeard (hearingO c o levels) (c .core .report .error))))
     (c .core .report .error)
 
 -- ---- 0x09, a bit
@@ -241,8 +241,8 @@ flagO reset k raises flag o (Read address) = flag
 flagO reset k raises flag o (Slot levels) = pick (both (isActive (o .activity .mode)) (raises levels)) true flag
 
 -- RAK of the frame under way
-abbrev pub rak : Observer → Bool
-rak o = acknowledgeAsked (getD (o .frame .bytes) 1 0)
+abbrev pub rakO : Observer → Bool
+rakO o = acknowledgeAsked (getD (o .frame .bytes) 1 0)
 
 -- ---- the claim
 
@@ -272,7 +272,7 @@ abbrev pub Hears : Controller → Observer → Event → Type 0
 Hears c o Reset = Unit {0}
 Hears c o (Write address value) = Unit {0}
 Hears c o (Read address) = Unit {0}
-Hears c o (Slot levels) = heard (c .core) (slot-rule.verdict (c .core) (sampleOf c levels)) (sampleOf c levels) ≡ hearingIn c o levels
+Hears c o (Slot levels) = heard (c .core) (slot-rule.verdict (c .core) (sampleOf c levels)) (sampleOf c levels) ≡ hearingO c o levels
 
 pub record Settles (c : Controller) (o : Observer) (e : Event) : Type 0 where
   pub value : Answers c o e
@@ -284,9 +284,9 @@ pub record Settles (c : Controller) (o : Observer) (e : Event) : Type 0 where
   pub rst : Settled c e (c .core .report .flags .rst) (flagO true 7 (λ levels. false) (c .core .report .flags .rst) o e) (next c e .core .report .flags .rst)
   pub te : Settled c e (c .core .report .flags .te) (flagO false 4 (λ levels. exhaustedIn (judgedIn c o levels)) (c .core .report .flags .te) o e) (next c e .core .report .flags .te)
   pub tok : Settled c e (c .core .report .flags .tok) (flagO false 3 (λ levels. either (sentAll (o .tally) (judgedIn c o levels)) (isWhole (repliedIn c o levels))) (c .core .report .flags .tok) o e) (next c e .core .report .flags .tok)
-  pub re : Settled c e (c .core .report .flags .re) (flagO false 2 (λ levels. either (isSpoiled (deliveryIn c o levels)) (isBroken (repliedIn c o levels))) (c .core .report .flags .re) o e) (next c e .core .report .flags .re)
-  pub rok : Settled c e (c .core .report .flags .rok) (flagO false 1 (λ levels. both (isStored (deliveryIn c o levels)) (rak o)) (c .core .report .flags .rok) o e) (next c e .core .report .flags .rok)
-  pub rnok : Settled c e (c .core .report .flags .rnok) (flagO false 0 (λ levels. both (isStored (deliveryIn c o levels)) (not (rak o))) (c .core .report .flags .rnok) o e) (next c e .core .report .flags .rnok)
+  pub re : Settled c e (c .core .report .flags .re) (flagO false 2 (λ levels. either (marksCher (deliveryIn c o levels)) (isBroken (repliedIn c o levels))) (c .core .report .flags .re) o e) (next c e .core .report .flags .re)
+  pub rok : Settled c e (c .core .report .flags .rok) (flagO false 1 (λ levels. both (isStored (deliveryIn c o levels)) (rakO o)) (c .core .report .flags .rok) o e) (next c e .core .report .flags .rok)
+  pub rnok : Settled c e (c .core .report .flags .rnok) (flagO false 0 (λ levels. both (isStored (deliveryIn c o levels)) (not (rakO o))) (c .core .report .flags .rnok) o e) (next c e .core .report .flags .rnok)
 
 abbrev pub SettledOver : Controller → Observer → List Event → Type 0
 SettledOver c o [] = Unit {0}

@@ -36,13 +36,13 @@ use Rattle.every_run.proofs.Observer.Flags.{endedFlags, flags-ended, fl
 use Rattle.every_run.specs.Observer.{isStored, accepted}
 use Rattle.every_run.proofs.Steps as steps
 use Rattle.every_run.proofs.Steps.{Step, step-of, refused-next, refused-not, accepted-next}
-use Rattle.every_run.specs.OwnFrames.{verdictIn, replyIn}
-use Rattle.every_run.specs.Settled.{isSpoiled}
+use Rattle.every_run.specs.OwnFrames.{verdictIn, replyVerdictIn}
+use Rattle.every_run.specs.Settled.{marksCher}
 use Rattle.every_run.proofs.Sending.Demand3.{never-fulfils}
 use Rattle.every_run.proofs.Roles.{quiet-phase, RoleIs, sends, asks, replying, receives, rests, role-is}
 use Rattle.every_run.proofs.OwnFrames.Steady.{effort-asked}
 use Rattle.every_run.proofs.OwnFrames.EveryRun.{slot-sampled}
-use Rattle.every_run.specs.Interrupts.{flagsOf, Sampled, ownFrame, Received, hearingIn, fitting, rak, Resets, by-pin, by-command, Exhausts, exhausts, LastError, last, Completes, completes, replied, Spoils, fault, overflow, broken, Stores, stores, Raised, Interrupts}
+use Rattle.every_run.specs.Interrupts.{flagsOf, Sampled, ownFrame, Received, hearingIn, fittingIn, rak, IsReset, by-pin, by-command, Exhausts, exhausts, LastError, last, Completes, completes, replied, Spoils, fault, overflow, broken, Stores, stores, Raised, Interrupts}
 use Rattle.every_run.proofs.Interrupts.Line as line
 use Rattle.rules.specs.declared.Flags.{Flags}
 use Rattle.rules.specs.declared.Report.{Report}
@@ -112,8 +112,8 @@ module _ (c : Controller) (v : ℕ) where
   pub slot-te : flags .te ≡ pick (isExhausted (endingIn c v)) true (flagsOf c .te)
   slot-te = ap (λ (f : Flags). f .te) flags-sampled ∙ te-judged (c .core) w q (heardBy c v)
 
-  pub slot-re : flags .re ≡ pick (isFailed q) true (pick (isSpoiled (deliveryIn c v)) true (flagsOf c .re))
-  slot-re = ap (λ (f : Flags). f .re) flags-sampled ∙ after-re (c .core) w q (heardBy c v) ∙ sym (raised-by (isFailed q) (isSpoiled (deliveryIn c v)) (flagsOf c .re))
+  pub slot-re : flags .re ≡ pick (isFailed q) true (pick (marksCher (deliveryIn c v)) true (flagsOf c .re))
+  slot-re = ap (λ (f : Flags). f .re) flags-sampled ∙ after-re (c .core) w q (heardBy c v) ∙ sym (raised-by (isFailed q) (marksCher (deliveryIn c v)) (flagsOf c .re))
 
   pub slot-rok : flags .rok ≡ pick (both (isStored (deliveryIn c v)) (asked (c .core .reception))) true (flagsOf c .rok)
   unfolding asked
@@ -244,7 +244,7 @@ asks-bit : (v : ℕ) → asksReset (v % 256) ≡ true → bitAt v 7 ≡ 1
 unfolding asksReset
 asks-bit v e = let d : v % 256 / 128 % 2 ≡ 1 = eqb-true (v % 256 / 128 % 2) 1 e in omega arith
 
-reset-raised : (c : Controller) (e : Event) → Resets c e → flagsOf (next c e) .rst ≡ true
+reset-raised : (c : Controller) (e : Event) → IsReset c e → flagsOf (next c e) .rst ≡ true
 reset-raised c Reset (by-pin i) = go (step-of c Reset)
   where
     go : Step c Reset → flagsOf (next c Reset) .rst ≡ true
@@ -263,12 +263,12 @@ asks-reset : (a v : ℕ) → resets a (v % 256) ≡ true → (a ≡ 0x03) × (bi
 unfolding resets
 asks-reset a v e = let b = both-true (eqb a command) (asksReset (v % 256)) e in (eqb-true a command (b .0), asks-bit v (b .1))
 
-rst-by : (c : Controller) → Raised (λ f. f .rst) Resets c
+rst-by : (c : Controller) → Raised (λ f. f .rst) IsReset c
 rst-by c =
     record {
       raised = reset-raised c;
       only =
-          only-by (λ f. f .rst) c (Resets c) (λ x i. by-pin i) (λ a v x i d. let r = asks-reset a v d in by-command i (r .0) (r .1))
+          only-by (λ f. f .rst) c (IsReset c) (λ x i. by-pin i) (λ a v x i d. let r = asks-reset a v d in by-command i (r .0) (r .1))
           (λ f v e. unfold cleared in unless-false (f .rst) (hasBit v 7) e)
           (λ a v f. ended-same (λ f. f .rst) (λ f. refl) (λ f. refl) (stopped (serviceAsked (c .core .service) a v)) f)
           (λ l s e h. clash e (sym (slot-rst c (sampleOf c l)) ∙ h));
@@ -572,7 +572,7 @@ taken-in c l r e =
 
 -- ---- RE
 
-spoiled-raised : (c : Controller) (l : ℕ) → Sampled c l → isSpoiled (deliveryIn c (sampleOf c l)) ≡ true → flagsOf (next c (Slot l)) .re ≡ true
+spoiled-raised : (c : Controller) (l : ℕ) → Sampled c l → marksCher (deliveryIn c (sampleOf c l)) ≡ true → flagsOf (next c (Slot l)) .re ≡ true
 spoiled-raised c l s d =
     let v : ℕ = sampleOf c l in
     ap (λ (x : Controller). flagsOf x .re) (slot-sampled c l (s .taken) (s .active)) ∙ slot-re c v
@@ -581,27 +581,27 @@ spoiled-raised c l s d =
 spoils-raised : (c : Controller) (e : Event) → Spoils c e → flagsOf (next c e) .re ≡ true
 spoils-raised c (Slot l) (fault code r d) =
     let x : deliveryIn c (sampleOf c l) ≡ Spoiled = taken-in c l r d ∙ (unfold deliveryTo in refl) in
-    spoiled-raised c l (r .sampled) (ap isSpoiled x ∙ (unfold isSpoiled in refl))
+    spoiled-raised c l (r .sampled) (ap marksCher x ∙ (unfold marksCher in refl))
 spoils-raised c (Slot l) (overflow r d n) =
     let x : deliveryIn c (sampleOf c l) ≡ Overflowed = taken-in c l r d ∙ (unfold deliveryTo delivered in rw n) in
-    spoiled-raised c l (r .sampled) (ap isSpoiled x ∙ (unfold isSpoiled in refl))
+    spoiled-raised c l (r .sampled) (ap marksCher x ∙ (unfold marksCher in refl))
 spoils-raised c (Slot l) (broken code s d) =
     let v : ℕ = sampleOf c l in
     ap (λ (x : Controller). flagsOf x .re) (slot-sampled c l (s .taken) (s .active)) ∙ slot-re c v
-    ∙ ap (λ (q : Verdict). pick (isFailed q) true (pick (isSpoiled (deliveryIn c v)) true (flagsOf c .re))) d ∙ (unfold isFailed in refl)
+    ∙ ap (λ (q : Verdict). pick (isFailed q) true (pick (marksCher (deliveryIn c v)) true (flagsOf c .re))) d ∙ (unfold isFailed in refl)
 
-spoils-heard : (c : Controller) (l : ℕ) → Received c l → (h : Hearing) → hearingIn c l ≡ h → isSpoiled (deliveryTo h (c .core .reception)) ≡ true → Spoils c (Slot l)
+spoils-heard : (c : Controller) (l : ℕ) → Received c l → (h : Hearing) → hearingIn c l ≡ h → marksCher (deliveryTo h (c .core .reception)) ≡ true → Spoils c (Slot l)
 unfolding deliveryTo delivered
-spoils-heard c l r Silent e d = not-at-reset (unfold isSpoiled in d)
-spoils-heard c l r Follows e d = not-at-reset (unfold isSpoiled in d)
+spoils-heard c l r Silent e d = not-at-reset (unfold marksCher in d)
+spoils-heard c l r Follows e d = not-at-reset (unfold marksCher in d)
 spoils-heard c l r (Fault code) e d = fault code r e
-spoils-heard c l r Good e d = overflow r e (go (fitting c) d)
+spoils-heard c l r Good e d = overflow r e (go (fittingIn c) d)
   where
-    go : (b : Bool) → isSpoiled (pick b Stored Overflowed) ≡ true → b ≡ false
-    go true d = not-at-reset (unfold isSpoiled in d)
+    go : (b : Bool) → marksCher (pick b Stored Overflowed) ≡ true → b ≡ false
+    go true d = not-at-reset (unfold marksCher in d)
     go false d = refl
 
-spoils-reply : (c : Controller) (l : ℕ) → Sampled c l → (q : Verdict) → replyIn c l ≡ q → isFailed q ≡ true → Spoils c (Slot l)
+spoils-reply : (c : Controller) (l : ℕ) → Sampled c l → (q : Verdict) → replyVerdictIn c l ≡ q → isFailed q ≡ true → Spoils c (Slot l)
 unfolding isFailed
 spoils-reply c l s Unjudged e d = not-at-reset d
 spoils-reply c l s Goes e d = not-at-reset d
@@ -613,8 +613,8 @@ spoils-reply c l s Answered e d = not-at-reset d
 spoils-slot : (c : Controller) (l : ℕ) → Sampled c l → flagsOf c .re ≡ false → sampledSlot c (sampleOf c l) .core .report .flags .re ≡ true → Spoils c (Slot l)
 spoils-slot c l s e h =
     let v : ℕ = sampleOf c l in
-    one-passed (isFailed (replyOf c v)) (isSpoiled (deliveryIn c v)) e (sym (slot-re c v) ∙ h) (λ p. spoils-reply c l s (replyOf c v) refl p)
-    (λ p. let t = took c l s isSpoiled (unfold isSpoiled in refl) p in spoils-heard c l (t .0) (hearingIn c l) refl (t .1))
+    one-passed (isFailed (replyOf c v)) (marksCher (deliveryIn c v)) e (sym (slot-re c v) ∙ h) (λ p. spoils-reply c l s (replyOf c v) refl p)
+    (λ p. let t = took c l s marksCher (unfold marksCher in refl) p in spoils-heard c l (t .0) (hearingIn c l) refl (t .1))
 
 re-by : (c : Controller) → Raised (λ f. f .re) Spoils c
 unfolding resetReport
@@ -630,7 +630,7 @@ re-by c =
 
 -- ---- ROK and RNOK
 
-stored-in : (c : Controller) (l : ℕ) → Received c l → hearingIn c l ≡ Good → fitting c ≡ true → deliveryIn c (sampleOf c l) ≡ Stored
+stored-in : (c : Controller) (l : ℕ) → Received c l → hearingIn c l ≡ Good → fittingIn c ≡ true → deliveryIn c (sampleOf c l) ≡ Stored
 unfolding deliveryTo delivered
 stored-in c l r d n = taken-in c l r d ∙ rw n
 
@@ -639,7 +639,7 @@ unfolding deliveryTo delivered
 stored-heard c l a q r Silent e d = not-at-reset (unfold isStored in d)
 stored-heard c l a q r Follows e d = not-at-reset (unfold isStored in d)
 stored-heard c l a q r (Fault code) e d = not-at-reset (unfold isStored in d)
-stored-heard c l a q r Good e d = stores r e (go (fitting c) d) q
+stored-heard c l a q r Good e d = stores r e (go (fittingIn c) d) q
   where
     go : (b : Bool) → isStored (pick b Stored Overflowed) ≡ true → b ≡ true
     go true d = refl

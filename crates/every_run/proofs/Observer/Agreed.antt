@@ -487,7 +487,7 @@ module _ (c : Controller) (o : Observer) (s : Same c o) (f : Fine c) (y : (v : �
         tally = q;
       }
 
-  pub taken : (e : Event) (value : ℕ) (d : Controller) → step c e ≡ accept value d → nextO c o e ≡ observer.followIn c o e
+  pub taken : (e : Event) (value : ℕ) (d : Controller) → step c e ≡ accept value d → nextO c o e ≡ observer.followO c o e
   unfolding nextO
   taken e value d h = rw (accepted-so c (o .tally) e value d h)
 
@@ -495,17 +495,17 @@ module _ (c : Controller) (o : Observer) (s : Same c o) (f : Fine c) (y : (v : �
   active-is = ap (λ (x : Activity). isActive (x .mode)) (s .core .activity)
 
   pub followed-by : (l : ℕ) (x : Controller) → isActive (o .activity .mode) ≡ true → next c (Slot l) ≡ x
-      → observer.followIn c o (Slot l) ≡ goesOnO (after c o (sampleOf c l) (x .memory)) (longestOf (c .core)) (x .memory)
-  unfolding observer.followIn
+      → observer.followO c o (Slot l) ≡ goesOnO (after c o (sampleOf c l) (x .memory)) (longestOf (c .core)) (x .memory)
+  unfolding observer.followO
   followed-by l x a n = rw (a, n)
 
   tallied-by : (l : ℕ) (x : Controller) → isActive (c .core .activity .mode) ≡ true → next c (Slot l) ≡ x
-      → beside.followIn c (o .tally) (Slot l) ≡ afterSlot (endedC c (o .tally) (sampleOf c l)) x
-  unfolding beside.followIn beside.seenIn
+      → beside.followT c (o .tally) (Slot l) ≡ afterSlot (endedC c (o .tally) (sampleOf c l)) x
+  unfolding beside.followT beside.seenIn
   tallied-by l x a n = rw (a, n)
 
-  pub rested-by : (l : ℕ) → isActive (o .activity .mode) ≡ false → observer.followIn c o (Slot l) ≡ o
-  unfolding observer.followIn
+  pub rested-by : (l : ℕ) → isActive (o .activity .mode) ≡ false → observer.followO c o (Slot l) ≡ o
+  unfolding observer.followO
   rested-by l a = rw a
 
   pub bytes-after : (l : ℕ) (x : Controller) → next c (Slot l) ≡ x → Below 256 (x .memory)
@@ -519,11 +519,11 @@ module _ (c : Controller) (o : Observer) (s : Same c o) (f : Fine c) (y : (v : �
       let t : Tally = o .tally in
       let n : next c (Slot l) ≡ x = unfold activeSlot run.answered in accepted-next c t (Slot l) _ (activeSlot c l) h in
       let u : Observer = goesOnO (after c o v (x .memory)) (longestOf (c .core)) (x .memory) in
-      let m₁ : nextO c o (Slot l) ≡ observer.followIn c o (Slot l) = unfold run.answered in taken (Slot l) _ (activeSlot c l) h in
+      let m₁ : nextO c o (Slot l) ≡ observer.followO c o (Slot l) = unfold run.answered in taken (Slot l) _ (activeSlot c l) h in
       let b : isActive (o .activity .mode) ≡ true = sym active-is ∙ a in
-      let m₂ : observer.followIn c o (Slot l) ≡ u = followed-by l x b n in
-      let t₁ : nextT c t (Slot l) ≡ beside.followIn c t (Slot l) = unfold run.answered in accepted-tally c t (Slot l) _ (activeSlot c l) h in
-      let t₂ : beside.followIn c t (Slot l) ≡ afterSlot (endedC c t v) x = tallied-by l x a n in
+      let m₂ : observer.followO c o (Slot l) ≡ u = followed-by l x b n in
+      let t₁ : nextT c t (Slot l) ≡ beside.followT c t (Slot l) = unfold run.answered in accepted-tally c t (Slot l) _ (activeSlot c l) h in
+      let t₂ : beside.followT c t (Slot l) ≡ afterSlot (endedC c t v) x = tallied-by l x a n in
       let i : Below 256 (x .memory) = bytes-after l x n in
       same-as (Slot l) x u n (m₁ ∙ m₂) (t₁ ∙ t₂ ∙ slot-tally c o s f v small i) (goes-on-same (x .core) (after c o v (x .memory)) (longestOf (c .core)) (x .memory) (slot-core c o s f v small i))
       (goes-on-rested (after c o v (x .memory)) (longestOf (c .core)) (x .memory) (slot-rested o (longestOf (c .core)) (drives (c .core)) v (x .memory) b))
@@ -532,26 +532,26 @@ module _ (c : Controller) (o : Observer) (s : Same c o) (f : Fine c) (y : (v : �
   same-next e (refusal n h) =
       same-as e c o (refused-next c (o .tally) e n h) (unfold nextO in rw (refused-not c (o .tally) e n h)) (unfold nextT in rw (refused-not c (o .tally) e n h)) (s .core) (s .rested)
   same-next Reset (reset h) =
-      let t : nextT c (o .tally) Reset ≡ atReset .tally = accepted-tally c (o .tally) Reset 0 (resetAll c) h ∙ unfold beside.followIn atReset in refl in
-      same-as Reset (resetAll c) atReset (accepted-next c (o .tally) Reset 0 (resetAll c) h) (taken Reset 0 (resetAll c) h ∙ unfold observer.followIn in refl) t
+      let t : nextT c (o .tally) Reset ≡ atReset .tally = accepted-tally c (o .tally) Reset 0 (resetAll c) h ∙ unfold beside.followT atReset in refl in
+      same-as Reset (resetAll c) atReset (accepted-next c (o .tally) Reset 0 (resetAll c) h) (taken Reset 0 (resetAll c) h ∙ unfold observer.followO in refl) t
       (unfold resetAll resetCore atReset unsettled in record { activity = refl; line = line-anew false; frame = refl; reply = no-reply }) reset-rested
   same-next (Write a v) (wrote h) =
       let x : Controller = hostWritten c a (v % 256) in
       let u : Observer = writtenO o a (v % 256) in
-      let m : nextO c o (Write a v) ≡ u = taken (Write a v) 0 x h ∙ unfold observer.followIn in refl in
-      let t : nextT c (o .tally) (Write a v) ≡ u .tally = accepted-tally c (o .tally) (Write a v) 0 x h ∙ unfold beside.followIn in wrote-tally c o s a (v % 256) in
+      let m : nextO c o (Write a v) ≡ u = taken (Write a v) 0 x h ∙ unfold observer.followO in refl in
+      let t : nextT c (o .tally) (Write a v) ≡ u .tally = accepted-tally c (o .tally) (Write a v) 0 x h ∙ unfold beside.followT in wrote-tally c o s a (v % 256) in
       same-as (Write a v) x u (accepted-next c (o .tally) (Write a v) 0 x h) m t (wrote-core c o s a (v % 256)) (wrote-rested o a (v % 256) (s .rested))
   same-next (Read a) (gave value h) =
-      let m : nextO c o (Read a) ≡ o = taken (Read a) value c h ∙ unfold observer.followIn in refl in
-      let t : nextT c (o .tally) (Read a) ≡ o .tally = accepted-tally c (o .tally) (Read a) value c h ∙ unfold beside.followIn in refl in
+      let m : nextO c o (Read a) ≡ o = taken (Read a) value c h ∙ unfold observer.followO in refl in
+      let t : nextT c (o .tally) (Read a) ≡ o .tally = accepted-tally c (o .tally) (Read a) value c h ∙ unfold beside.followT in refl in
       same-as (Read a) c o (accepted-next c (o .tally) (Read a) value c h) m t (s .core) (s .rested)
   same-next (Slot l) (went a h) = went-same l a h
   same-next (Slot l) (rested a h) =
       let n : next c (Slot l) ≡ c = unfold restedSlot in accepted-next c (o .tally) (Slot l) _ c h in
-      let m₁ : nextO c o (Slot l) ≡ observer.followIn c o (Slot l) = unfold restedSlot in taken (Slot l) _ c h in
-      let m₂ : observer.followIn c o (Slot l) ≡ o = rested-by l (sym active-is ∙ a) in
-      let t₁ : nextT c (o .tally) (Slot l) ≡ beside.followIn c (o .tally) (Slot l) = unfold restedSlot in accepted-tally c (o .tally) (Slot l) _ c h in
-      let t₂ : beside.followIn c (o .tally) (Slot l) ≡ o .tally = unfold beside.followIn in rw a in
+      let m₁ : nextO c o (Slot l) ≡ observer.followO c o (Slot l) = unfold restedSlot in taken (Slot l) _ c h in
+      let m₂ : observer.followO c o (Slot l) ≡ o = rested-by l (sym active-is ∙ a) in
+      let t₁ : nextT c (o .tally) (Slot l) ≡ beside.followT c (o .tally) (Slot l) = unfold restedSlot in accepted-tally c (o .tally) (Slot l) _ c h in
+      let t₂ : beside.followT c (o .tally) (Slot l) ≡ o .tally = unfold beside.followT in rw a in
       same-as (Slot l) c o n (m₁ ∙ m₂) (t₁ ∙ t₂) (s .core) (s .rested)
 
 pub same-fresh : Same fresh atReset

@@ -14,7 +14,7 @@ use Rattle.rules.specs.Definitions.Service.{reportSending, reportJudged, report
 use Rattle.rules.specs.Definitions.State.{idleDue}
 use Rattle.rules.specs.Definitions.Slots.{roleIn, delivers, serviceJudged, ending, reportAfter, startMade, followsOn}
 use Rattle.every_run.specs.Observer.{isStored}
-use Rattle.every_run.specs.Settled.{isSpoiled}
+use Rattle.every_run.specs.Settled.{marksCher}
 use Rattle.rules.proofs.Logic.{left}
 use Rattle.every_run.proofs.Sending.Follow.{idle-report, choice-flags, isExhausted}
 use Rattle.rules.specs.declared.Flags.{Flags}
@@ -190,8 +190,8 @@ replied-re (Failed code) f = refl
 replied-re Done f = refl
 replied-re Answered f = refl
 
-delivered-re : (d : Delivery) (a : Bool) (f : Flags) → deliveredFlags d a f .re ≡ pick (isSpoiled d) true (f .re)
-unfolding deliveredFlags isSpoiled
+delivered-re : (d : Delivery) (a : Bool) (f : Flags) → deliveredFlags d a f .re ≡ pick (marksCher d) true (f .re)
+unfolding deliveredFlags marksCher
 delivered-re Nothing a f = refl
 delivered-re Stored true f = refl
 delivered-re Stored false f = refl
@@ -255,11 +255,11 @@ module _ (k : Core) (w q : Verdict) (h : Hearing) where
       ∙ ap (λ (b : Bool). pick (isDone q) true (pick (isSent (ending k w h)) true b)) (delivered-same (λ f. f .tok) (λ f. refl) (λ f. refl) (λ f. refl) d asked was)
       ∙ raised-by (isDone q) (isSent (ending k w h)) (was .tok)
 
-  pub after-re : now .re ≡ pick (either (isSpoiled d) (isFailed q)) true (was .re)
+  pub after-re : now .re ≡ pick (either (marksCher d) (isFailed q)) true (was .re)
   after-re =
       ap (λ (f : Flags). f .re) flags-after ∙ replied-re q _
       ∙ ap (λ (b : Bool). pick (isFailed q) true b) (ended-same (λ f. f .re) (λ f. refl) (λ f. refl) (ending k w h) _ ∙ delivered-re d asked was)
-      ∙ raised-by (isFailed q) (isSpoiled d) (was .re)
+      ∙ raised-by (isFailed q) (marksCher d) (was .re)
 
   pub after-rok : now .rok ≡ pick (both (isStored d) asked) true (was .rok)
   after-rok =

@@ -30,7 +30,7 @@ use Rattle.every_run.specs.Tally.{Stand, away, between, opening, inside,
 use Rattle.every_run.specs.Observer.{freeO, Replying, silent, replies, Observer, fitting, heardDelivery, deliveredApart, deliveredIn, isStored, answerIn, answerO, pausing, waits, fulfilledT, isReplying, fulfilledO, sampledO, goesOnO, accepted, nextO}
 use Rattle.every_run.specs.Sending.{levelO}
 use Rattle.every_run.specs.Settled as settlement
-use Rattle.every_run.specs.Settled.{sentAll, exhaustedIn, abortedIn, endedMap, retriesT, deliveredMap, isSpoiled, Replied, repliedAt, repliedMap, isWhole, isBroken, repliedMessage, judgedIn, hearingIn, deliveryIn, repliedIn, writtenMap, memoryO, zeroRetries, sendingO, messageO, isGood, isNothing, codeHeard, overflows, untaken, errorO, flagO, readO, rak, Answers, Hears, Settles}
+use Rattle.every_run.specs.Settled.{sentAll, exhaustedIn, abortedIn, endedMap, retriesT, deliveredMap, marksCher, Replied, repliedAt, repliedMap, isWhole, isBroken, repliedMessage, judgedIn, hearingO, deliveryIn, repliedIn, writtenMap, memoryO, zeroRetries, sendingO, messageO, isGood, isNothing, codeHeard, overflows, untakenO, errorO, flagO, readO, rakO, Answers, Hears, Settles}
 use Rattle.rules.proofs.Logic.{left, both-true}
 use Rattle.every_run.proofs.Roles.{role-sender, role-asker, role-other, heard-sender, heard-asker}
 use Rattle.every_run.proofs.Steps as steps
@@ -297,7 +297,7 @@ leaves-heard f e Good x = refl
 
 -- 0x07, the delivery as the sample makes it
 none-error : (h : Hearing) (x : Report) (r : Reception) → reportDelivered Nothing (reportHeard h x) r .error ≡ pick (overflows h Nothing) BOV (codeHeard h (x .error))
-unfolding reportDelivered reportHeard overflows codeHeard isSpoiled
+unfolding reportDelivered reportHeard overflows codeHeard marksCher
 none-error Silent x r = refl
 none-error Follows x r = refl
 none-error (Fault code) x r = refl
@@ -314,15 +314,15 @@ heard-error (Fault code) x r = go (r .winner .matched)
     go false = unfold reportDelivered in refl
 heard-error Good x r = go (r .winner .matched) (fitting r)
   where
-    go : (a b : Bool) → reportDelivered (pick a (pick b Stored Overflowed) Nothing) x r .error ≡ pick (isSpoiled (pick a (pick b Stored Overflowed) Nothing)) BOV (x .error)
-    go true true = unfold reportDelivered reportStored isSpoiled in refl
-    go true false = unfold reportDelivered receiveError isSpoiled in refl
-    go false b = unfold reportDelivered isSpoiled in refl
+    go : (a b : Bool) → reportDelivered (pick a (pick b Stored Overflowed) Nothing) x r .error ≡ pick (marksCher (pick a (pick b Stored Overflowed) Nothing)) BOV (x .error)
+    go true true = unfold reportDelivered reportStored marksCher in refl
+    go true false = unfold reportDelivered receiveError marksCher in refl
+    go false b = unfold reportDelivered marksCher in refl
 
 -- the model's own frame
 own-error : (w : Verdict) (x : Report) (r : Reception) (s : Service)
     → reportJudged w (reportDelivered Nothing (reportHeard (hearOwn w) x) r) s .error ≡ pick (overflows (hearOwn w) Nothing) BOV (codeHeard (hearOwn w) (x .error))
-unfolding reportJudged reportSending reportDelivered reportHeard hearOwn overflows codeHeard isSpoiled
+unfolding reportJudged reportSending reportDelivered reportHeard hearOwn overflows codeHeard marksCher
 own-error Unjudged x r s = refl
 own-error Goes x r s = refl
 own-error Lost x r s = refl
@@ -341,9 +341,9 @@ answered-error (Fault code) x r s = unfold reportJudged reportSending in refl
 answered-error Good x r s = go (r .winner .matched) (fitting r)
   where
     go : (a b : Bool) → reportJudged (goodFor (pick a (pick b Stored Overflowed) Nothing)) (reportDelivered (pick a (pick b Stored Overflowed) Nothing) x r) s .error
-        ≡ pick (isNothing (pick a (pick b Stored Overflowed) Nothing)) CV (pick (isSpoiled (pick a (pick b Stored Overflowed) Nothing)) BOV (x .error))
-    go true true = unfold goodFor reportJudged reportDelivered reportStored isNothing isSpoiled in refl
-    go true false = unfold goodFor reportJudged reportSending isNothing isSpoiled in refl
+        ≡ pick (isNothing (pick a (pick b Stored Overflowed) Nothing)) CV (pick (marksCher (pick a (pick b Stored Overflowed) Nothing)) BOV (x .error))
+    go true true = unfold goodFor reportJudged reportDelivered reportStored isNothing marksCher in refl
+    go true false = unfold goodFor reportJudged reportSending isNothing marksCher in refl
     go false b = unfold goodFor reportJudged reportSending isNothing in refl
 
 -- another module's frame, outside an attempt
@@ -363,8 +363,8 @@ apart-error (replies c f levels) h x r = none-error h x r
 error-in : (z : Stand) (k : Core) (t : Tally) (y : Replying) (v : ℕ) (s : Service) → k .service ≡ serviceIn z t → JudgedIn z t v (answerIn (hearFrame (k .reception) (longestOf k) v) (k .reception)) (slot-rule.verdict k v)
     → (h : Hearing) → heard k (slot-rule.verdict k v) v ≡ h
     → reportJudged (slot-rule.verdict k v) (reportDelivered (deliveredIn z y h (k .reception)) (reportHeard h (k .report)) (k .reception)) s .error
-    ≡ pick (untaken z h (deliveredIn z y h (k .reception))) CV (pick (overflows h (deliveredIn z y h (k .reception))) BOV (codeHeard h (k .report .error)))
-unfolding serviceIn deliveredIn untaken
+    ≡ pick (untakenO z h (deliveredIn z y h (k .reception))) CV (pick (overflows h (deliveredIn z y h (k .reception))) BOV (codeHeard h (k .report .error)))
+unfolding serviceIn deliveredIn untakenO
 error-in away k t y v s e j h i = rw j (unfold reportJudged in apart-error y h (k .report) (k .reception))
 error-in between k t y v s e j h i = rw j (unfold reportJudged in apart-error y h (k .report) (k .reception))
 error-in (opening start) k t y v s e j h i =
@@ -516,7 +516,7 @@ module _ (c : Controller) (o : Observer) (s : Same c o) (l : ℕ) where
   done = serviceJudged w (c .core .service)
 
   abbrev full : Bool
-  full = fulfilledO o (hearingIn c o l)
+  full = fulfilledO o (hearingO c o l)
 
   service-in : c .core .service ≡ serviceIn (t .stand) t
   unfolding serviceOf
@@ -534,7 +534,7 @@ module _ (c : Controller) (o : Observer) (s : Same c o) (l : ℕ) where
       subst (λ (x : Tally). Tells t x w done) counts-same
       (tells (c .core .service) t (drives (c .core)) v (answerC c v) w (s .joined .service) (is-judged c t (s .joined) v) (driven-is c t (s .joined)) (s .joined .good .errors) (s .joined .good .setting))
 
-  hears : h ≡ hearingIn c o l
+  hears : h ≡ hearingO c o l
   hears = hears-same c o s v
 
   fulfils-same : fulfils (delivers (roleIn (c .core)) h r) r (c .core .service) ≡ full
@@ -551,7 +551,7 @@ module _ (c : Controller) (o : Observer) (s : Same c o) (l : ℕ) where
   does : delivers (roleIn (c .core)) h r ≡ deliveryIn c o l
   does =
       delivered-in (t .stand) (c .core) t (o .reply) h (s .core .reply) service-in
-      ∙ ap (λ (x : Hearing). deliveredIn (t .stand) (o .reply) x r) hears ∙ ap (λ (x : Reception). deliveredIn (t .stand) (o .reply) (hearingIn c o l) x) (s .core .frame)
+      ∙ ap (λ (x : Hearing). deliveredIn (t .stand) (o .reply) x r) hears ∙ ap (λ (x : Reception). deliveredIn (t .stand) (o .reply) (hearingO c o l) x) (s .core .frame)
 
   replies-so : repliedOf q (c .core .reply .channel) ≡ repliedIn c o l
   replies-so = replied-in (t .stand) (c .core) t (o .reply) v (s .core .reply) service-in
@@ -644,7 +644,7 @@ module _ (c : Controller) (o : Observer) (s : Same c o) (l : ℕ) where
       message-replied q closed (c .core .reply .channel) ∙ ap (λ (x : Replied). repliedMessage x (closed .message)) replies-so ∙ ap (repliedMessage (repliedIn c o l)) closed-message
 
   after-error : reportAfter (c .core) w q h .error
-      ≡ pick (untaken (t .stand) (hearingIn c o l) (deliveryIn c o l)) CV (pick (overflows (hearingIn c o l) (deliveryIn c o l)) BOV (codeHeard (hearingIn c o l) (was .error)))
+      ≡ pick (untakenO (t .stand) (hearingO c o l) (deliveryIn c o l)) CV (pick (overflows (hearingO c o l) (deliveryIn c o l)) BOV (codeHeard (hearingO c o l) (was .error)))
   unfolding reportAfter
   after-error =
       let k : Core = c .core in
@@ -652,8 +652,8 @@ module _ (c : Controller) (o : Observer) (s : Same c o) (l : ℕ) where
       ∙ leaves-ended (λ x. x .error) (λ x y z. refl) (ending k w h) (reportJudged w shown done) done
       ∙ ap (λ (d : Delivery). reportJudged w (reportDelivered d heardReport r) done .error) (delivered-in (t .stand) k t (o .reply) h (s .core .reply) service-in)
       ∙ error-in (t .stand) k t (o .reply) v done service-in (is-judged c t (s .joined) v) h refl
-      ∙ ap (λ (x : Hearing). pick (untaken (t .stand) x (deliveredIn (t .stand) (o .reply) x r)) CV (pick (overflows x (deliveredIn (t .stand) (o .reply) x r)) BOV (codeHeard x (was .error)))) hears
-      ∙ ap (λ (y : Reception). pick (untaken (t .stand) (hearingIn c o l) (deliveredIn (t .stand) (o .reply) (hearingIn c o l) y)) CV (pick (overflows (hearingIn c o l) (deliveredIn (t .stand) (o .reply) (hearingIn c o l) y)) BOV (codeHeard (hearingIn c o l) (was .error)))) (s .core .frame)
+      ∙ ap (λ (x : Hearing). pick (untakenO (t .stand) x (deliveredIn (t .stand) (o .reply) x r)) CV (pick (overflows x (deliveredIn (t .stand) (o .reply) x r)) BOV (codeHeard x (was .error)))) hears
+      ∙ ap (λ (y : Reception). pick (untakenO (t .stand) (hearingO c o l) (deliveredIn (t .stand) (o .reply) (hearingO c o l) y)) CV (pick (overflows (hearingO c o l) (deliveredIn (t .stand) (o .reply) (hearingO c o l) y)) BOV (codeHeard (hearingO c o l) (was .error)))) (s .core .frame)
 
   after-sending : reportAfter (c .core) w q h .sending ≡ pick (ltb (t .errors) (j .errors)) (retriesT j) (was .sending)
   unfolding reportAfter
@@ -679,7 +679,7 @@ module _ (c : Controller) (o : Observer) (s : Same c o) (l : ℕ) where
   slot-message = ap (λ (x : Report). x .message) slot-report ∙ follows-message m (judgedCore c v) ∙ ap (λ (x : Report). x .message) judged-report ∙ after-message
 
   slot-error : sampledSlot c v .core .report .error
-      ≡ pick (untaken (t .stand) (hearingIn c o l) (deliveryIn c o l)) CV (pick (overflows (hearingIn c o l) (deliveryIn c o l)) BOV (codeHeard (hearingIn c o l) (was .error)))
+      ≡ pick (untakenO (t .stand) (hearingO c o l) (deliveryIn c o l)) CV (pick (overflows (hearingO c o l) (deliveryIn c o l)) BOV (codeHeard (hearingO c o l) (was .error)))
   slot-error = ap (λ (x : Report). x .error) slot-report ∙ follows-error m (judgedCore c v) ∙ ap (λ (x : Report). x .error) judged-report ∙ after-error
 
   slot-flags : sampledSlot c v .core .report .flags ≡ reportAfter (c .core) w q h .flags
@@ -746,9 +746,9 @@ pub record Leaves (c : Controller) (o : Observer) (e : Event) (d : Controller) :
   pub rst : d .core .report .flags .rst ≡ flagO true 7 (λ levels. false) (c .core .report .flags .rst) o e
   pub te : d .core .report .flags .te ≡ flagO false 4 (λ levels. exhaustedIn (judgedIn c o levels)) (c .core .report .flags .te) o e
   pub tok : d .core .report .flags .tok ≡ flagO false 3 (λ levels. either (sentAll (o .tally) (judgedIn c o levels)) (isWhole (repliedIn c o levels))) (c .core .report .flags .tok) o e
-  pub re : d .core .report .flags .re ≡ flagO false 2 (λ levels. either (isSpoiled (deliveryIn c o levels)) (isBroken (repliedIn c o levels))) (c .core .report .flags .re) o e
-  pub rok : d .core .report .flags .rok ≡ flagO false 1 (λ levels. both (isStored (deliveryIn c o levels)) (rak o)) (c .core .report .flags .rok) o e
-  pub rnok : d .core .report .flags .rnok ≡ flagO false 0 (λ levels. both (isStored (deliveryIn c o levels)) (not (rak o))) (c .core .report .flags .rnok) o e
+  pub re : d .core .report .flags .re ≡ flagO false 2 (λ levels. either (marksCher (deliveryIn c o levels)) (isBroken (repliedIn c o levels))) (c .core .report .flags .re) o e
+  pub rok : d .core .report .flags .rok ≡ flagO false 1 (λ levels. both (isStored (deliveryIn c o levels)) (rakO o)) (c .core .report .flags .rok) o e
+  pub rnok : d .core .report .flags .rnok ≡ flagO false 0 (λ levels. both (isStored (deliveryIn c o levels)) (not (rakO o))) (c .core .report .flags .rnok) o e
 
 reset-leaves : (c : Controller) (o : Observer) → Leaves c o Reset (resetAll c)
 unfolding resetAll resetCore resetReport memoryO sendingO messageO errorO zeroRetries flagO
@@ -778,7 +778,7 @@ module _ (c : Controller) (o : Observer) (s : Same c o) (l : ℕ) (a : isActive 
   abbrev hearing : Hearing
   hearing = heard (c .core) judged (sampleOf c l)
 
-  asked-rak : acknowledgeAsked (getD (c .core .reception .bytes) 1 0) ≡ rak o
+  asked-rak : acknowledgeAsked (getD (c .core .reception .bytes) 1 0) ≡ rakO o
   asked-rak = ap (λ (x : Reception). acknowledgeAsked (getD (x .bytes) 1 0)) (s .core .frame)
 
   slot-rst : now .rst ≡ before .rst
@@ -789,9 +789,9 @@ module _ (c : Controller) (o : Observer) (s : Same c o) (l : ℕ) (a : isActive 
   slot-te = demand.slot-te c (o .tally) (s .joined) (sampleOf c l) ∙ ap (λ (x : Tally). pick (ltb (x .setting) (x .errors)) true (before .te)) (counts-same c o s l)
 
   sent-so : isSent (ending (c .core) judged hearing) ≡ sentAll (o .tally) (judgedIn c o l)
-  sent-so = ap isSent (ends c o s l) ∙ go (fulfilledO o (hearingIn c o l)) refl
+  sent-so = ap isSent (ends c o s l) ∙ go (fulfilledO o (hearingO c o l)) refl
     where
-      go : (b : Bool) → fulfilledO o (hearingIn c o l) ≡ b → isSent (pick b Fulfilled (endT (o .tally) (judgedIn c o l))) ≡ sentAll (o .tally) (judgedIn c o l)
+      go : (b : Bool) → fulfilledO o (hearingO c o l) ≡ b → isSent (pick b Fulfilled (endT (o .tally) (judgedIn c o l))) ≡ sentAll (o .tally) (judgedIn c o l)
       go true e = unfold isSent in sym (waiting-quiet c o s l (waiting-stand c o s l e) .0)
       go false e =
           unfold endT restT in
@@ -803,19 +803,19 @@ module _ (c : Controller) (o : Observer) (s : Same c o) (l : ℕ) (a : isActive 
       ap (λ (f : Flags). f .tok) (slot-flags c o s l) ∙ after-tok (c .core) judged replying hearing
       ∙ ap (λ (b : Bool). pick (either b (isDone replying)) true (before .tok)) sent-so ∙ ap (λ (b : Bool). pick (either (sentAll (o .tally) (judgedIn c o l)) b) true (before .tok)) e
 
-  slot-re : now .re ≡ pick (either (isSpoiled (deliveryIn c o l)) (isBroken (repliedIn c o l))) true (before .re)
+  slot-re : now .re ≡ pick (either (marksCher (deliveryIn c o l)) (isBroken (repliedIn c o l))) true (before .re)
   slot-re =
       let e : isFailed replying ≡ isBroken (repliedIn c o l) = failed-broken replying (c .core .reply .channel) ∙ ap isBroken (replies-so c o s l) in
       ap (λ (f : Flags). f .re) (slot-flags c o s l) ∙ after-re (c .core) judged replying hearing
-      ∙ ap (λ (d : Delivery). pick (either (isSpoiled d) (isFailed replying)) true (before .re)) (does c o s l) ∙ ap (λ (b : Bool). pick (either (isSpoiled (deliveryIn c o l)) b) true (before .re)) e
+      ∙ ap (λ (d : Delivery). pick (either (marksCher d) (isFailed replying)) true (before .re)) (does c o s l) ∙ ap (λ (b : Bool). pick (either (marksCher (deliveryIn c o l)) b) true (before .re)) e
 
-  slot-rok : now .rok ≡ pick (both (isStored (deliveryIn c o l)) (rak o)) true (before .rok)
+  slot-rok : now .rok ≡ pick (both (isStored (deliveryIn c o l)) (rakO o)) true (before .rok)
   slot-rok =
       ap (λ (f : Flags). f .rok) (slot-flags c o s l) ∙ after-rok (c .core) judged replying hearing
       ∙ ap (λ (d : Delivery). pick (both (isStored d) (acknowledgeAsked (getD (c .core .reception .bytes) 1 0))) true (before .rok)) (does c o s l)
       ∙ ap (λ (b : Bool). pick (both (isStored (deliveryIn c o l)) b) true (before .rok)) asked-rak
 
-  slot-rnok : now .rnok ≡ pick (both (isStored (deliveryIn c o l)) (not (rak o))) true (before .rnok)
+  slot-rnok : now .rnok ≡ pick (both (isStored (deliveryIn c o l)) (not (rakO o))) true (before .rnok)
   slot-rnok =
       ap (λ (f : Flags). f .rnok) (slot-flags c o s l) ∙ after-rnok (c .core) judged replying hearing
       ∙ ap (λ (d : Delivery). pick (both (isStored d) (not (acknowledgeAsked (getD (c .core .reception .bytes) 1 0)))) true (before .rnok)) (does c o s l)
@@ -982,9 +982,9 @@ module _ (c : Controller) (o : Observer) (s : Same c o) (a value : ℕ) where
         rst = flag-wrote (λ x. x .rst) 7 true (λ levels. false) refl (λ x. refl);
         te = flag-wrote (λ x. x .te) 4 false (λ levels. exhaustedIn (judgedIn c o levels)) refl (λ x. refl);
         tok = flag-wrote (λ x. x .tok) 3 false (λ levels. either (sentAll (o .tally) (judgedIn c o levels)) (isWhole (repliedIn c o levels))) refl (λ x. refl);
-        re = flag-wrote (λ x. x .re) 2 false (λ levels. either (isSpoiled (deliveryIn c o levels)) (isBroken (repliedIn c o levels))) refl (λ x. refl);
-        rok = flag-wrote (λ x. x .rok) 1 false (λ levels. both (isStored (deliveryIn c o levels)) (rak o)) refl (λ x. refl);
-        rnok = flag-wrote (λ x. x .rnok) 0 false (λ levels. both (isStored (deliveryIn c o levels)) (not (rak o))) refl (λ x. refl);
+        re = flag-wrote (λ x. x .re) 2 false (λ levels. either (marksCher (deliveryIn c o levels)) (isBroken (repliedIn c o levels))) refl (λ x. refl);
+        rok = flag-wrote (λ x. x .rok) 1 false (λ levels. both (isStored (deliveryIn c o levels)) (rakO o)) refl (λ x. refl);
+        rnok = flag-wrote (λ x. x .rnok) 0 false (λ levels. both (isStored (deliveryIn c o levels)) (not (rakO o))) refl (λ x. refl);
       }
 
 -- ---- every event

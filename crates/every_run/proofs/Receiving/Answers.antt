@@ -34,7 +34,7 @@ use Rattle.every_run.proofs.Ranges.Limits.{Fine}
 use Rattle.every_run.proofs.Ranges.Reach.{fine-next}
 use Rattle.every_run.proofs.Sending.Join.{made, serviceIn, serviceOf}
 use Rattle.every_run.proofs.Sending.Bound.{Coming}
-use Rattle.every_run.proofs.Sending.Beside.{answerC, afterSlot, endedC, followIn, nextT}
+use Rattle.every_run.proofs.Sending.Beside.{answerC, afterSlot, endedC, followT, nextT}
 use Rattle.every_run.proofs.Sending.Demand3.{Joined, joined-next}
 use Rattle.every_run.proofs.Receiving.InvariantLaws.{invariant-under-way, invariant-silent, invariant-body, invariant-short}
 use Rattle.every_run.proofs.Receiving.OwnAttempt.{inStart, inCode}
@@ -301,21 +301,21 @@ module _ (c : Controller) (t : Tally) (l : Log) (f : Fine c) (j : Joined c t) (k
   keeps : (e : Event) → A (pick (accepted c e) (logIn c l e) l) (nextT c t e) → Kept (next c e) (nextT c t e) (logNext c l e)
   keeps e a = record { logs = logged e; aligned = log-stays e (nextT c t e .stand) refl a }
 
-  wrote-aligned : (a v : ℕ) → A l (followIn c t (Write a v))
-  unfolding followIn
+  wrote-aligned : (a v : ℕ) → A l (followT c t (Write a v))
+  unfolding followT
   wrote-aligned a v =
       picked (A l) (resets a (v % 256)) none _ (λ d. unfold none in tt)
       (λ d. picked (A l) (sleeps a (v % 256)) none _ (λ x. unfold none in tt) (λ x. ended-aligned l (askedT t a (v % 256)) (asked-aligned l t a (v % 256) (k .aligned))))
 
   slot-kept : (levels : ℕ) → isActive (c .core .activity .mode) ≡ true → step c (Slot levels) ≡ run.answered (activeSlot c levels) → Kept (next c (Slot levels)) (nextT c t (Slot levels)) (logNext c l (Slot levels))
-  unfolding run.answered followIn logIn
+  unfolding run.answered followT logIn
   slot-kept levels a h =
       keeps (Slot levels)
       (rw (accepted-so c t (Slot levels) _ (activeSlot c levels) h, accepted-tally c t (Slot levels) _ (activeSlot c levels) h, a)
       (slot-aligned c t l (k .logs) j (sampleOf c levels) (next c (Slot levels) .memory) (next c (Slot levels)) (k .aligned)))
 
   rest-kept : (levels : ℕ) → isActive (c .core .activity .mode) ≡ false → step c (Slot levels) ≡ restedSlot c → Kept (next c (Slot levels)) (nextT c t (Slot levels)) (logNext c l (Slot levels))
-  unfolding restedSlot followIn logIn
+  unfolding restedSlot followT logIn
   rest-kept levels a h = keeps (Slot levels) (rw (accepted-so c t (Slot levels) _ c h, accepted-tally c t (Slot levels) _ c h, a) (k .aligned))
 
   pub kept-next : (e : Event) → Kept (next c e) (nextT c t e) (logNext c l e)
@@ -323,9 +323,9 @@ module _ (c : Controller) (t : Tally) (l : Log) (f : Fine c) (j : Joined c t) (k
     where
       go : (e : Event) → Step c e → Kept (next c e) (nextT c t e) (logNext c l e)
       go e (refusal n h) = keeps e (rw (refused-not c t e n h, refused-tally c t e n h) (k .aligned))
-      go Reset (reset h) = keeps Reset (rw (accepted-so c t Reset 0 (resetAll c) h, accepted-tally c t Reset 0 (resetAll c) h) (unfold followIn none in tt))
+      go Reset (reset h) = keeps Reset (rw (accepted-so c t Reset 0 (resetAll c) h, accepted-tally c t Reset 0 (resetAll c) h) (unfold followT none in tt))
       go (Write a v) (wrote h) =
           keeps (Write a v) (rw (accepted-so c t (Write a v) 0 (hostWritten c a (v % 256)) h, accepted-tally c t (Write a v) 0 (hostWritten c a (v % 256)) h) (unfold logIn in wrote-aligned a v))
-      go (Read a) (gave value h) = keeps (Read a) (rw (accepted-so c t (Read a) value c h, accepted-tally c t (Read a) value c h) (unfold followIn logIn in (k .aligned)))
+      go (Read a) (gave value h) = keeps (Read a) (rw (accepted-so c t (Read a) value c h, accepted-tally c t (Read a) value c h) (unfold followT logIn in (k .aligned)))
       go (Slot levels) (went a h) = slot-kept levels a h
       go (Slot levels) (rested a h) = rest-kept levels a h

@@ -37,7 +37,7 @@ use Rattle.every_run.proofs.Sending.Follow.{follows-activity, follows-r
 use Rattle.every_run.proofs.Ranges.Limits.{Fine}
 use Rattle.every_run.proofs.Ranges.Reach.{fine-fresh, fine-next}
 use Rattle.every_run.proofs.Sending.Demand3.{Joined, joined-next, joined-fresh}
-use Rattle.every_run.specs.Receiving.{Log, noLog, storedFrame, received, errorAfter, logNext, taker, hears, Taken, Delivers, role, Heeds, DeliversIn, Owing, Acknowledges, ReceivingOver, untaken}
+use Rattle.every_run.specs.Receiving.{Log, noLog, storedFrame, received, errorAfter, logNext, taker, hears, Taken, Delivers, role, Heeds, DeliversIn, Owing, Acknowledges, ReceivingOver, untakenCode}
 use Rattle.every_run.specs.Interrupts.{ownFrame}
 use Rattle.every_run.proofs.Roles as roles
 use Rattle.every_run.proofs.Roles.{RoleIs, sends, asks, rests, role-is}
@@ -384,7 +384,7 @@ module _ (c : Controller) (t : Tally) (l : Log) (i : Logs c l) (levels : ℕ) (y
       slot-mailbox c t levels y a b h ∙ ap (λ (d : Delivery). getD (memoryDelivered d (c .memory) r) b 0) (receives-delivers (role c) q (hears c levels) r)
 
   good-next : hears c levels ≡ hearing.Good → (w : Whole (longestOf (c .core)) r (l .samples ++ (u ∷ []))) → (x : Role) → role c ≡ x
-      → next c (Slot levels) .core .report .error ≡ errorAfter (c .core .report .error) (untaken x (c .core .report .error)) (r .winner) (w .frame)
+      → next c (Slot levels) .core .report .error ≡ errorAfter (c .core .report .error) (untakenCode x (c .core .report .error)) (r .winner) (w .frame)
   good-next h w Nobody e = absurd (false≢true (unfold receives in (subst (λ (x : Role). receives x ≡ true) e q)))
   good-next h w Receiver e =
       slot-error c t levels y a
@@ -392,7 +392,7 @@ module _ (c : Controller) (t : Tally) (l : Log) (i : Logs c l) (levels : ℕ) (y
       ∙ ap (λ (x : Verdict). reportAfter (c .core) Unjudged x (hears c levels) .error) (no-reply-judged (c .core) u q)
       ∙ receiver-error (c .core) (hears c levels) e
       ∙ ap (λ (x : Hearing). reportDelivered (deliveryOf x r) (reportHeard x (c .core .report)) r .error) h
-      ∙ good-error (c .core .report) r w ∙ (unfold untaken in refl)
+      ∙ good-error (c .core .report) r w ∙ (unfold untakenCode in refl)
   good-next h w Sender e = absurd (false≢true (unfold receives in (subst (λ (x : Role). receives x ≡ true) e q)))
   good-next h w Asker e =
       let g : hearFrame r (longestOf (c .core)) u ≡ hearing.Good = sym hears-is ∙ h in
@@ -400,7 +400,7 @@ module _ (c : Controller) (t : Tally) (l : Log) (i : Logs c l) (levels : ℕ) (y
       ∙ ap (λ (x : Verdict). reportAfter (c .core) (verdict (c .core) u) x (hears c levels) .error) (no-reply-judged (c .core) u q)
       ∙ ap (λ (x : Hearing). reportAfter (c .core) (verdict (c .core) u) Unjudged x .error) h
       ∙ asker-error (c .core) (verdict (c .core) u) e (asker-verdict (c .core) u e g)
-      ∙ answers-error (c .core .report) r _ w ∙ (unfold untaken in refl)
+      ∙ answers-error (c .core .report) r _ w ∙ (unfold untakenCode in refl)
   good-next h w Replier e = absurd (false≢true (unfold receives in (subst (λ (x : Role). receives x ≡ true) e q)))
 
   taken : hears c levels ≡ hearing.Good → Taken c l levels
@@ -420,7 +420,7 @@ module _ (c : Controller) (t : Tally) (l : Log) (i : Logs c l) (levels : ℕ) (y
           ap (λ (x : List ℕ). getD x (statusAt c) 0 / 8) next-marked ∙ ended-keeps (λ s. s / 8) cher-length chtx-length _ _ (c .core .service .channel) ∙ ap (λ (x : List ℕ). getD x (statusAt c) 0 / 8) m,
           ap (λ (x : List ℕ). getD x (statusAt c) 0 % 2) next-marked ∙ ended-keeps (λ s. s % 2) cher-chrx chtx-chrx _ _ (c .core .service .channel) ∙ ap (λ (x : List ℕ). getD x (statusAt c) 0 % 2) m,
         );
-        error = good-next h w (role c) refl ∙ ap (λ (x : Winner). errorAfter (c .core .report .error) (untaken (role c) (c .core .report .error)) x (w .frame)) n;
+        error = good-next h w (role c) refl ∙ ap (λ (x : Winner). errorAfter (c .core .report .error) (untakenCode (role c) (c .core .report .error)) x (w .frame)) n;
       }
 
   delivers-slot : Delivers c l levels

@@ -40,17 +40,17 @@ endedC c t v =
     pick (fulfilledT t (c .core .reply .going) (c .core .reception) (heard (c .core) (slot-rule.verdict (c .core) v) v)) none
     (endedT (countedT t (drives (c .core)) v (answerC c v)))
 
-unfoldable pub followIn : Controller → Tally → Event → Tally
-followIn c t Reset = none
-followIn c t (Write address value) = pick (resets address (value % 256)) none (pick (sleeps address (value % 256)) none (endedT (askedT t address (value % 256))))
-followIn c t (Read address) = t
-followIn c t (Slot levels) = pick (isActive (c .core .activity .mode)) (afterSlot (endedC c t (sampleOf c levels)) (next c (Slot levels))) t
+unfoldable pub followT : Controller → Tally → Event → Tally
+followT c t Reset = none
+followT c t (Write address value) = pick (resets address (value % 256)) none (pick (sleeps address (value % 256)) none (endedT (askedT t address (value % 256))))
+followT c t (Read address) = t
+followT c t (Slot levels) = pick (isActive (c .core .activity .mode)) (afterSlot (endedC c t (sampleOf c levels)) (next c (Slot levels))) t
 
 unfoldable pub seenT : Controller → Tally → Event → Tally
 seenT c t e = pick (accepted c e) (seenIn c t e) t
 
 unfoldable pub nextT : Controller → Tally → Event → Tally
-nextT c t e = pick (accepted c e) (followIn c t e) t
+nextT c t e = pick (accepted c e) (followT c t e) t
 
 -- demand 3's claim on an event, of this tally; t is the tally before the event, seenT c t e once its sample is judged
 pub record Holds (c : Controller) (t : Tally) (e : Event) : Type 0 where

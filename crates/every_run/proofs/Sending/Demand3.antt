@@ -35,7 +35,7 @@ use Rattle.every_run.specs.Tally.{Stand, away, between, opening, inside,
 use Rattle.every_run.specs.Observer.{fitting, heardDelivery, isStored, answerIn, waits, fulfilledT, accepted}
 use Rattle.every_run.specs.Settled.{exhaustedIn}
 use Rattle.every_run.specs.Sending.{Drives, InSlot, te}
-use Rattle.every_run.proofs.Sending.Beside.{answerC, seenIn, followIn, afterSlot, endedC, seenT, nextT, Holds}
+use Rattle.every_run.proofs.Sending.Beside.{answerC, seenIn, followT, afterSlot, endedC, seenT, nextT, Holds}
 use Rattle.every_run.proofs.Sending.Frames.{level-coded}
 use Rattle.every_run.proofs.Steps.{Step, refusal, reset, wrote, gave, went, rested, refused-next, refused-seen, refused-tally, refused-not, accepted-next, accepted-seen, accepted-tally}
 use Rattle.every_run.proofs.Sending.Bound.{Good, levelIn, Coming, drives-in, bounded-now, good-none, pick-good, ended-good, counted-good, after-good, asked-good}
@@ -406,12 +406,12 @@ module _ (c : Controller) (t : Tally) (j : Joined c t) (f : Fine c) (y : (v : �
       unchanged c t (Slot l) j (o ∙ i) (λ x. ap te n ∙ x) (λ x. drives-in (longestOf (c .core)) (t .stand) (t .frame) (j .good .stands) (drives (c .core)) (level-is c t j))
 
   went-joined : (l : ℕ) → isActive (c .core .activity .mode) ≡ true → step c (Slot l) ≡ run.answered (activeSlot c l) → Joined (next c (Slot l)) (nextT c t (Slot l))
-  unfolding run.answered activeSlot followIn seenIn
+  unfolding run.answered activeSlot followT seenIn
   went-joined l a h =
       let v : ℕ = sampleOf c l in
       let n : next c (Slot l) ≡ sampledSlot c v = accepted-next c t (Slot l) _ (activeSlot c l) h in
-      let o : nextT c t (Slot l) ≡ followIn c t (Slot l) = accepted-tally c t (Slot l) _ (activeSlot c l) h in
-      let i : followIn c t (Slot l) ≡ afterSlot (endedC c t v) (next c (Slot l)) = rw a in
+      let o : nextT c t (Slot l) ≡ followT c t (Slot l) = accepted-tally c t (Slot l) _ (activeSlot c l) h in
+      let i : followT c t (Slot l) ≡ afterSlot (endedC c t v) (next c (Slot l)) = rw a in
       let b : Below 256 (sampledSlot c v .memory) = subst (λ (x : Controller). Below 256 (x .memory)) n (fine-next c (Slot l) f .memory) in
       moved n (o ∙ i ∙ ap (afterSlot (endedC c t v)) n) (record { service = slot-joined c t j v; good = slot-good c t j v b (y v (sample-small c l)) })
 
@@ -419,16 +419,16 @@ module _ (c : Controller) (t : Tally) (j : Joined c t) (f : Fine c) (y : (v : �
   joined-next e (refusal n h) = moved (refused-next c t e n h) (refused-tally c t e n h) j
   joined-next Reset (reset h) =
       moved (accepted-next c t Reset 0 (resetAll c) h) (accepted-tally c t Reset 0 (resetAll c) h)
-      (unfold followIn in record { service = unfold resetAll resetCore serviceOf serviceIn none in refl; good = good-none })
+      (unfold followT in record { service = unfold resetAll resetCore serviceOf serviceIn none in refl; good = good-none })
   joined-next (Write a v) (wrote h) =
       moved (accepted-next c t (Write a v) 0 (hostWritten c a (v % 256)) h) (accepted-tally c t (Write a v) 0 (hostWritten c a (v % 256)) h)
-      (unfold followIn in wrote-joined c t j a (v % 256))
-  joined-next (Read a) (gave value h) = moved (accepted-next c t (Read a) value c h) (accepted-tally c t (Read a) value c h) (unfold followIn in j)
+      (unfold followT in wrote-joined c t j a (v % 256))
+  joined-next (Read a) (gave value h) = moved (accepted-next c t (Read a) value c h) (accepted-tally c t (Read a) value c h) (unfold followT in j)
   joined-next (Slot l) (went a h) = went-joined l a h
   joined-next (Slot l) (rested a h) =
       let n : next c (Slot l) ≡ c = unfold restedSlot in accepted-next c t (Slot l) _ c h in
-      let o : nextT c t (Slot l) ≡ followIn c t (Slot l) = unfold restedSlot in accepted-tally c t (Slot l) _ c h in
-      let i : followIn c t (Slot l) ≡ t = unfold followIn in rw a in
+      let o : nextT c t (Slot l) ≡ followT c t (Slot l) = unfold restedSlot in accepted-tally c t (Slot l) _ c h in
+      let i : followT c t (Slot l) ≡ t = unfold followT in rw a in
       moved n (o ∙ i) j
 
 pub joined-fresh : Joined fresh none
