@@ -484,12 +484,18 @@ static bool says(Text *t, const char *format, ...)
     return true;
 }
 
-static bool says_last(Text *t, const char *word, long n, long place)
+static bool says_end(Text *t, long count)
 {
-    return (place < 0 ? says(t, "%s %ld\n", word, n) : says(t, "%s %ld at %ld\n", word, n, place)) && t->at == t->end;
+    return says(t, "end %ld\n", count) && t->at == t->end;
 }
 
-/* the number at *at, which moves behind it; or its fault, negative */
+/* the fault's number, its place, and the bytes looked at from there on */
+static bool says_bad(Text *t, long why, size_t place, size_t looked)
+{
+    return says(t, "bad %ld at %zu after %zu\n", why, place, looked) && t->at == t->end;
+}
+
+/* the number at *at, which moves behind what was looked at; or its fault, negative */
 static long number(const uint8_t *s, size_t n, size_t *at)
 {
     long value = 0;
@@ -582,29 +588,29 @@ static bool listing_right(const uint8_t *s, size_t n, Text t)
     bads++;
     long version = number(s, n, &at), count, kind, operand[2];
     if (version != 1)
-        return says_last(&t, "bad", version < 0 ? -version : 33, 0);
+        return says_bad(&t, version < 0 ? -version : 33, first, at - first);
     first = at;
     if ((count = number(s, n, &at)) < 0 || count > 4096)
-        return says_last(&t, "bad", count < 0 ? -count : 34, first);
+        return says_bad(&t, count < 0 ? -count : 34, first, at - first);
     if (!says(&t, "events %ld\n", count))
         return false;
     for (long index = 0; index < count; index++) {
         first = at;
         if ((kind = number(s, n, &at)) < 0 || kind > 4)
-            return says_last(&t, "bad", kind < 0 ? -kind : 35, first);
+            return says_bad(&t, kind < 0 ? -kind : 35, first, at - first);
         for (int k = 0; k < operands[kind]; k++) {
             first = at;
             if ((operand[k] = number(s, n, &at)) < 0)
-                return says_last(&t, "bad", -operand[k], first);
+                return says_bad(&t, -operand[k], first, at - first);
         }
         if (!line(&t, index, kind, operand, &asleep))
             return false;
         events++;
     }
     if (at < n)
-        return says_last(&t, "bad", 36, at);
+        return says_bad(&t, 36, at, 0);
     bads--, ends++;
-    return says_last(&t, "end", count, -1);
+    return says_end(&t, count);
 }
 
 static void session_differs(const char *what, const uint8_t *s, size_t n, int got, const uint8_t *text, size_t length)

@@ -48,8 +48,8 @@ uint8_t frapmast_decode(const uint8_t *slots, size_t slots_length, uint8_t *room
                         uint16_t head[4]);
 
 /* A recorded session to its listing, text with no zero byte at its end. 0, and length is the listing's; or 13. A broken
-   session has a listing too: its last line is `bad N at P`. In room of less than FRAPMAST_MOST_LISTING bytes the session
-   is played twice, first for the listing's length, and the call takes two to three times as long. */
+   session has a listing too: its last line is `bad N at P after K`. In room of less than FRAPMAST_MOST_LISTING bytes the
+   session is played twice, first for the listing's length, and the call takes two to three times as long. */
 uint8_t frapmast_play(const uint8_t *session, size_t session_length, uint8_t *room, size_t room_length,
                       size_t *length);
 

@@ -46,11 +46,11 @@ first-events count es h n fit t =
 
 begun-so : (count : ℕ) (es : List Event) (q : Reading) → Begins count es q → BeginsWith count es (listing q)
 unfolding Begins
-begun-so count es (NoHeader f p) b = absurd b
+begun-so count es (NoHeader f p k) b = absurd b
 begun-so count es (Counted d r) b = rw (b .0) (listing-begins count es r (b .1 .0) (b .1 .1))
 
 -- The lines before a `bad` are the same whatever follows its place.
-pub before-a-fault : (s : List ℕ) → Bytes s → (count : ℕ) (r : Events) → session mostEvents s ≡ Counted count r → (f : Fault) (p : ℕ) → r .end ≡ Bad f p
+pub before-a-fault : (s : List ℕ) → Bytes s → (count : ℕ) (r : Events) → session mostEvents s ≡ Counted count r → (f : Fault) (p k : ℕ) → r .end ≡ Bad f p k
     → (t : List ℕ) → BeginsWith count (r .events) (listingOf (take p s ++ t))
 unfolding listingOf
-before-a-fault s b count r e f p i t = begun-so count (r .events) (session mostEvents (take p s ++ t)) (prefix mostEvents s b count r e f p i t)
+before-a-fault s b count r e f p k i t = begun-so count (r .events) (session mostEvents (take p s ++ t)) (prefix mostEvents s b count r e f p k i t)

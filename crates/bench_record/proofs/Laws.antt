@@ -44,7 +44,7 @@ module _ (c : Controller) (s : List ℕ) (count index at : ℕ) where
       let d : count - index ≡ suc (count - (index + 1)) = omega arith in
       rw (d, goes-on s at (count - (index + 1)) i) (append-assoc (line index e (answerTo c e .refused) (answerTo c e .value)) _ _)
 
-  pub bad-line : {f : Fault} {p : ℕ} → index < count → eventAt s at ≡ BadItem f p → body c index count (eventsAt (count - index) s at) ≡ badLine (faultNumber f) p
+  pub bad-line : {f : Fault} {p k : ℕ} → index < count → eventAt s at ≡ BadItem f p k → body c index count (eventsAt (count - index) s at) ≡ badLine (faultNumber f) p k
   unfolding body lines closing
   bad-line h i = let d : count - index ≡ suc (count - (index + 1)) = omega arith in rw (d, stops s at (count - (index + 1)) i)
 
@@ -89,10 +89,6 @@ pub event-next : (o : CoreOutcome) (m : List ℕ) (a : Answer) → answerLent o 
 unfolding answerLent
 event-next o m a h = ap (λ (y : Answer). y .next) h
 
-pub bad-laid : {room text now rest after : List ℕ} {at place r : ℕ} (n p : ℕ) (f : Fault) → Goes room at text now place rest → rest ≡ badLine (faultNumber f) p → n ≡ faultNumber f
-    → Laid now place (badLine n p) after r → Laid room at text after r
-bad-laid n p f g e h l = laid-all (other-rest e g) (rw (← h) l)
-
 pub first-rest : (c : Controller) → c ≡ fresh → (s : List ℕ) (count at : ℕ) → body fresh 0 count (eventsAt count s at) ≡ body c 0 count (eventsAt (count - 0) s at)
 first-rest c e s count at = rw (e, sub-zero)
 
@@ -129,23 +125,23 @@ copied room text aside after copy at n r h l c =
 
 abbrev pub countOf : Header → ℕ
 countOf (Good c next) = c
-countOf (BadHeader f p) = 0
+countOf (BadHeader f p k) = 0
 
 counted-most : (most at : ℕ) (r : Varint) → countOf (counted most at r) ≤ most
 unfolding counted
-counted-most most at (BadVarint f p) = omega arith
-counted-most most at (Value c next) = go (ltb most c) (ltb-false most c)
+counted-most most at (BadVarint f p k) = omega arith
+counted-most most at (Value c next used) = go (ltb most c) (ltb-false most c)
   where
-    go : (t : Bool) → (t ≡ false → c ≤ most) → countOf (pick t (BadHeader Count at) (Good c next)) ≤ most
+    go : (t : Bool) → (t ≡ false → c ≤ most) → countOf (pick t (BadHeader Count at used) (Good c next)) ≤ most
     go true h = omega arith
     go false h = h refl
 
 versioned-most : (most : ℕ) (s : List ℕ) (at : ℕ) (r : Varint) → countOf (versioned most s at r) ≤ most
 unfolding versioned
-versioned-most most s at (BadVarint f p) = omega arith
-versioned-most most s at (Value v next) = go (eqb v 1)
+versioned-most most s at (BadVarint f p k) = omega arith
+versioned-most most s at (Value v next used) = go (eqb v 1)
   where
-    go : (t : Bool) → countOf (pick t (counted most next (varintAt s next)) (BadHeader Version at)) ≤ most
+    go : (t : Bool) → countOf (pick t (counted most next (varintAt s next)) (BadHeader Version at used)) ≤ most
     go true = counted-most most next (varintAt s next)
     go false = omega arith
 
@@ -153,9 +149,10 @@ pub count-most : (most : ℕ) (s : List ℕ) (at c next : ℕ) → headerAt most
 unfolding headerAt
 count-most most s at c next e = rw e at (versioned-most most s at (varintAt s at))
 
-pub header-bad : {room after : List ℕ} {r : ℕ} (s : List ℕ) (n p : ℕ) (f : Fault) → headerAt mostEvents s 0 ≡ BadHeader f p → n ≡ faultNumber f → Laid room 0 (badLine n p) after r → Laid room 0 (listingOf s) after r
+pub header-bad : {room after : List ℕ} {r : ℕ} (s : List ℕ) {p k : ℕ} {f : Fault} → headerAt mostEvents s 0 ≡ BadHeader f p k → Laid room 0 (badLine (faultNumber f) p k) after r
+    → Laid room 0 (listingOf s) after r
 unfolding listingOf listing
-header-bad s n p f e h l = rw (no-header mostEvents s e, ← h) l
+header-bad s e l = rw (no-header mostEvents s e) l
 
 pub header-good : {room between after : List ℕ} {at r : ℕ} (s : List ℕ) (c next : ℕ) → headerAt mostEvents s 0 ≡ Good c next → Laid room 0 (eventsLine c) between at → Laid between at (body fresh 0 c (eventsAt c s next)) after r
     → Laid room 0 (listingOf s) after r

@@ -1,16 +1,16 @@
--- What is claimed of a listing's first lines.
+-- What is claimed of a listing's first lines, and of its line `bad`.
 use Prim.Native.Nat.{ℕ, _≤_}
-use mathlib.Core.List.{List, _++_}
+use mathlib.Core.List.{List, [], _∷_, _++_}
 use mathlib.Core.Path.{_≡_}
 use lib.ListN.{length, take}
 use Rattle.leb128.specs.Leb128.{Bytes, uleb128}
-use Rattle.session.specs.Reading.{mostEvents, Events, Counted, session}
+use Rattle.session.specs.Reading.{faultNumber, mostEvents, Events, NoHeader, Counted, session}
 use Rattle.session.specs.Writing.{eventsBytes, AllFit}
 use Rattle.session.specs.declared.Fault.{Fault}
 use Rattle.session.specs.declared.End.the-variants.{Bad}
 use Rattle.session.specs.declared.Event.{Event}
 use Rattle.rules.specs.Definitions.Run.{fresh}
-use Rattle.listing.specs.Listing.{eventsLine}
+use Rattle.listing.specs.Listing.{eventsLine, badLine}
 use Rattle.bench_record.specs.Record.{lines, listingOf}
 
 -- A listing begins with the lines of a count and of events.
@@ -24,5 +24,22 @@ FirstLines = (count : ℕ) (es : List Event) → count ≤ mostEvents → length
 -- "session events before a bad one stand": the lines before a `bad` are the same whatever follows its place
 abbrev pub LinesStand : Type 0
 LinesStand =
-    (s : List ℕ) → Bytes s → (count : ℕ) (r : Events) → session mostEvents s ≡ Counted count r → (f : Fault) (p : ℕ) → r .end ≡ Bad f p → (t : List ℕ)
+    (s : List ℕ) → Bytes s → (count : ℕ) (r : Events) → session mostEvents s ≡ Counted count r → (f : Fault) (p k : ℕ) → r .end ≡ Bad f p k → (t : List ℕ)
     → BeginsWith count (r .events) (listingOf (take p s ++ t))
+
+-- 02, Req 02: "the `bad` line gains ` after K`". It is the only line, or the last one behind those of the events read.
+pub record BadLines : Type 0 where
+  pub header : (s : List ℕ) (f : Fault) (p k : ℕ) → session mostEvents s ≡ NoHeader f p k → listingOf s ≡ badLine (faultNumber f) p k
+  pub events : (s : List ℕ) (count : ℕ) (r : Events) (f : Fault) (p k : ℕ) → session mostEvents s ≡ Counted count r → r .end ≡ Bad f p k
+      → listingOf s ≡ (eventsLine count ++ lines fresh 0 (r .events)) ++ badLine (faultNumber f) p k
+  -- the line of the empty session, and that of a count above 4,096, in bytes: "bad 30 at 0 after 0", "bad 34 at 1 after 2"
+  pub empty : listingOf [] ≡ 98 ∷ 97 ∷ 100 ∷ 32 ∷ 51 ∷ 48 ∷ 32 ∷ 97 ∷ 116 ∷ 32 ∷ 48 ∷ 32 ∷ 97 ∷ 102 ∷ 116 ∷ 101 ∷ 114 ∷ 32 ∷ 48 ∷ 10 ∷ []
+  pub count-4097 : listingOf (0x01 ∷ 0x81 ∷ 0x20 ∷ [])
+      ≡ 98 ∷ 97 ∷ 100 ∷ 32 ∷ 51 ∷ 52 ∷ 32 ∷ 97 ∷ 116 ∷ 32 ∷ 49 ∷ 32 ∷ 97 ∷ 102 ∷ 116 ∷ 101 ∷ 114 ∷ 32 ∷ 50 ∷ 10 ∷ []
+  -- one of each other fault
+  pub cut : listingOf (0x01 ∷ 0x81 ∷ []) ≡ badLine 30 1 1
+  pub not-shortest : listingOf (0x83 ∷ 0x00 ∷ []) ≡ badLine 31 0 2
+  pub too-large : listingOf (0x80 ∷ 0x80 ∷ 0x80 ∷ []) ≡ badLine 32 0 3
+  pub version : listingOf (0x02 ∷ []) ≡ badLine 33 0 1
+  pub kind : listingOf (0x01 ∷ 0x01 ∷ 0x05 ∷ []) ≡ eventsLine 1 ++ badLine 35 2 1
+  pub left-over : listingOf (0x01 ∷ 0x00 ∷ 0x07 ∷ []) ≡ eventsLine 0 ++ badLine 36 2 0

@@ -31,17 +31,17 @@ unfoldable pub lines : Controller → ℕ → List Event → List ℕ
 lines c index [] = []
 lines c index (e ∷ es) = line index e (answerTo c e .refused) (answerTo c e .value) ++ lines (answerTo c e .next) (index + 1) es
 
--- "On 30 to 36 the earlier lines stand, then `bad 31 at P` ..; no `end`."
+-- "On 30 to 36 the earlier lines stand, then `bad 31 at P` ..; no `end`." 02, Req 02: the line ends in ` after K`.
 unfoldable pub closing : ℕ → End → List ℕ
 closing count Clean = endLine count
-closing count (Bad f p) = badLine (faultNumber f) p
+closing count (Bad f p k) = badLine (faultNumber f) p k
 
 unfoldable pub body : Controller → ℕ → ℕ → Events → List ℕ
 body c index count r = lines c index (r .events) ++ closing count (r .end)
 
 -- "A bad header gives that line alone."
 unfoldable pub listing : Reading → List ℕ
-listing (NoHeader f p) = badLine (faultNumber f) p
+listing (NoHeader f p k) = badLine (faultNumber f) p k
 listing (Counted count r) = eventsLine count ++ body fresh 0 count r
 
 unfoldable pub listingOf : List ℕ → List ℕ

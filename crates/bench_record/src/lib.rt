@@ -1,5 +1,5 @@
-// What the listing of a session is (01, Session and listing): its definition, what a player answers, and the claim on the first lines.
-ghost use Rattle.bench_record.specs.Claims.{FirstLines, LinesStand};
+// What the listing of a session is (01, Session and listing): its definition, what a player answers, and the claims on its lines.
+ghost use Rattle.bench_record.specs.Claims.{FirstLines, LinesStand, BadLines};
 
 // The listing's length, or 13: the room is too short for it.
 pub enum Played {
@@ -11,4 +11,9 @@ pub enum Played {
 pub fn first_lines()
     ensures first { λ _. ⌜ FirstLines ⌝ }
     ensures fault { λ _. ⌜ LinesStand ⌝ }
+{}
+
+// Claim: the line of a session's fault, with its place and figure.
+pub fn bad_lines()
+    ensures { λ _. ⌜ BadLines ⌝ }
 {}

@@ -5,7 +5,8 @@
 --   codec: `encoded`, `encodedRoom` (crates/encoder); `decoded`, `decodedRoom` of `reading` (crates/decoder)
 --   session: `headerAt`, `eventAt`, `endAt` (crates/session), of which `session` is made; its numbers: `decode` (crates/leb128)
 --   listing: `played`, `playedRoom` of `listingOf` (crates/player); for C: crates/frapmast
--- Nor the numbers and sessions that 01 runs (Cases in crates/leb128 and crates/session), nor the closed runs `Courses` and `MoreCourses` (crates/rules, crates/closed_runs).
+-- Nor the numbers and sessions that 01 runs (Cases in crates/leb128 and crates/session), nor the line `bad` (BadLines in crates/bench_record), nor the closed runs
+-- `Courses` and `MoreCourses` (crates/rules, crates/closed_runs).
 --
 -- Legend. The notation is antt's; `rt doc` prints the path of the toolchain's guide, and guides/primer.md beside it has the language.
 --   (x : A) → B        for every x of A, B holds        A → B: if A, then B        A → ⊥: A does not hold
@@ -57,6 +58,7 @@ use Rattle.rules.specs.declared.Event.{Event}
 use Rattle.rules.specs.declared.Event.the-variants.{Reset, Write, Read, Slot}
 use Rattle.leb128.specs.Leb128.{Bytes, uleb128}
 use Rattle.leb128.specs.Leb128 as leb128
+use Rattle.leb128.specs.Claims.{Looked}
 use Rattle.session.specs.Reading.{mostEvents, Events, Counted, session}
 use Rattle.session.specs.Writing.{sessionBytes, AllFit}
 use Rattle.session.specs.Claims.{Settled}
@@ -93,10 +95,11 @@ pub record Refusals : Type 0 where
   pub decode-room : (room : List ℕ) (x : Reading) (r : codec-refusal.Refusal) → decoded (length room) x ≡ decoding.Refused r → decodedRoom room x ≡ room
 
 pub record Sessions : Type 0 where
-  -- "Any .. session file, however broken, gets an answer": a fault's place lies in the input or at its end, and no more events are read than are due
+  -- "Any .. session file, however broken, gets an answer". A fault is at the number that is due behind the bytes read (crates/session/specs/Claims.antt: InHeader,
+  -- InEvents), it is what is wrong there, and 02, Req 02: K is how many bytes of the number were looked at; for 33 to 35 how many it used, for 36 0 (Found)
   pub answered : (most : ℕ) (s : List ℕ) → Bytes s → sessions.Answered most s (session most s)
   -- "session events before a bad one stand": they are the same whatever stands from the fault's place on
-  pub stand : (most : ℕ) (s : List ℕ) → Bytes s → (c : ℕ) (r : Events) → session most s ≡ Counted c r → (f : Fault) (p : ℕ) → r .end ≡ Bad f p
+  pub stand : (most : ℕ) (s : List ℕ) → Bytes s → (c : ℕ) (r : Events) → session most s ≡ Counted c r → (f : Fault) (p k : ℕ) → r .end ≡ Bad f p k
       → (t : List ℕ) → sessions.Begins c (r .events) (session most (take p s ++ t))
   -- so do their lines: each event that is read has its line, with the answer of the step rule, whatever follows (crates/bench_record/specs/Claims.antt)
   pub first-lines : FirstLines
@@ -109,9 +112,12 @@ pub record Sessions : Type 0 where
   -- "a good session has at most 28,675" bytes
   pub short : (s : List ℕ) → Bytes s → (es : List session-event.Event) → sessions.Good mostEvents s es → length s ≤ 28675
   -- a number's "shortest form only", and "the rest of the caller's bytes is handed back": what is accepted is the LEB128 form of its value with the rest behind
-  -- it, and every such form is accepted
-  pub leb128-sound : (s : List ℕ) → Bytes s → (n : ℕ) (t : List ℕ) → leb128.decode s ≡ leb128.Value n t → (n ≤ 65535) × (s ≡ uleb128 n ++ t)
-  pub leb128-complete : (n : ℕ) (t : List ℕ) → n ≤ 65535 → leb128.decode (uleb128 n ++ t) ≡ leb128.Value n t
+  -- it, and every such form is accepted; 02, Req 02, "how many bytes it used when good": as many as the form has
+  pub leb128-sound : (s : List ℕ) → Bytes s → (n used : ℕ) (t : List ℕ) → leb128.decode s ≡ leb128.Value n used t
+      → (n ≤ 65535) × (s ≡ uleb128 n ++ t) × (used ≡ length (uleb128 n))
+  pub leb128-complete : (n : ℕ) (t : List ℕ) → n ≤ 65535 → leb128.decode (uleb128 n ++ t) ≡ leb128.Value n (length (uleb128 n)) t
+  -- 02, Req 02, "for 30, 31 and 32 how many bytes were looked at": at most three and at most those that are there; in each but the last the top bit is set
+  pub leb128-looked : (s : List ℕ) → Looked s
 
 -- ---- demand 2
 
@@ -234,7 +240,7 @@ pub record Marked : Type 0 where
   -- "P9 pointer 0x7F, two bytes: 0xFF, 0x80, 0x81."
   pub p9 : (mailboxAt 0x7F 0 ≡ 0xFF) × (mailboxAt 0x7F 1 ≡ 0x80) × (mailboxAt 0x7F 2 ≡ 0x81)
   -- "P10 300: AC 02. P11 83 00: 31."
-  pub p10 : (uleb128 300 ≡ 0xAC ∷ 0x02 ∷ []) × (leb128.decode (0xAC ∷ 0x02 ∷ []) ≡ leb128.Value 300 [])
+  pub p10 : (uleb128 300 ≡ 0xAC ∷ 0x02 ∷ []) × (leb128.decode (0xAC ∷ 0x02 ∷ []) ≡ leb128.Value 300 2 [])
   pub p11 : leb128.faultOf (leb128.decode (0x83 ∷ 0x00 ∷ [])) ≡ 31
   -- "P12 RAK 1, R/W 0, RTR 0, three bytes: 0x83."
   pub p12 : (low : ℕ) → low % 8 ≡ 0b100 → statusByte low 3 ≡ 0x83

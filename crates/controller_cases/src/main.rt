@@ -38,7 +38,7 @@ fn play_next() {
 // The listing of a session.
 fn play(s: &[u8]) {
     match session::header_at(s, 0) {
-        Header::Bad(f, p) => bad(f, p),
+        Header::Bad(f, p, looked) => bad(f, p, looked),
         Header::Good(count, first) => {
             line(b"events ", count as u64);
             play_events(s, count, first);
@@ -52,8 +52,8 @@ fn play_events(s: &[u8], count: u16, first: usize) {
     let mut n = 0u16;
     while n < count {
         match reading_place::event_from(s, at) {
-            Item::Bad(f, p) => {
-                bad(f, p);
+            Item::Bad(f, p, looked) => {
+                bad(f, p, looked);
                 return;
             }
             Item::Next(e, next) => {
@@ -69,7 +69,7 @@ fn play_events(s: &[u8], count: u16, first: usize) {
 // What follows the last event: bytes left over, or the end.
 fn close(s: &[u8], at: usize, count: u16) {
     match session::end_at(s, at) {
-        End::Bad(f, p) => bad(f, p),
+        End::Bad(f, p, looked) => bad(f, p, looked),
         End::Clean => line(b"end ", count as u64),
     }
 }
@@ -155,11 +155,13 @@ fn refused(reply: Reply) {
     line(b" refused ", answers::refused_by(reply) as u64);
 }
 
-// The line of a fault of the session, with its place.
-fn bad(f: Fault, p: usize) {
+// The line of a fault of the session, with its place and the bytes looked at there.
+fn bad(f: Fault, p: usize, looked: usize) {
     io::write_all(STDOUT_FILENO, b"bad ");
     io::print_decimal(STDOUT_FILENO, session::fault_number(f) as u64);
-    line(b" at ", p as u64);
+    io::write_all(STDOUT_FILENO, b" at ");
+    io::print_decimal(STDOUT_FILENO, p as u64);
+    line(b" after ", looked as u64);
 }
 
 // A text and a number, which end the line.

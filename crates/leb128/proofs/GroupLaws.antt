@@ -8,7 +8,7 @@ use borrow.Author.Tests.{lt-ltb, le-ltb, ne-eqb, ltb-true, ltb-false}
 use lib.Dec.{ltb, eqb}
 use lib.ListN.{length, take, drop, length-drop}
 use lib.Seq.{take-length}
-use Rattle.leb128.specs.Leb128.{pick, Refusal, Parsed, before, groups, decode, refusalNumber, faultOf, valueOf, restOf, groupsOf, uleb128}
+use Rattle.leb128.specs.Leb128.{pick, Refusal, Parsed, before, groups, decode, refusalNumber, faultOf, valueOf, restOf, lookedOf, groupsOf, uleb128}
 use Rattle.leb128.specs.Leb128.Parsed.{Value, Refused}
 use Rattle.leb128.specs.Leb128.Refusal.{Cut, NotShortest, TooLarge}
 
@@ -18,7 +18,7 @@ either P true h k = h refl
 either P false h k = k refl
 
 -- The rules of one group.
-pub alone : (k b : ℕ) (t : List ℕ) → b < 128 → groups (suc k) (b ∷ t) ≡ Value b t
+pub alone : (k b : ℕ) (t : List ℕ) → b < 128 → groups (suc k) (b ∷ t) ≡ Value b 1 t
 unfolding groups
 alone k b t h = simp (lt-ltb _ _ h)
 
@@ -26,9 +26,9 @@ pub opens : (k b : ℕ) (t : List ℕ) → 128 ≤ b → groups (suc k) (b ∷ t
 unfolding groups
 opens k b t h = simp (le-ltb _ _ h)
 
-pub joins : (b v : ℕ) (t : List ℕ) → (v ≡ 0 → ⊥) → v * 128 + b % 128 ≤ 65535 → before b (Value v t) ≡ Value (v * 128 + b % 128) t
+pub joins : (b v u : ℕ) (t : List ℕ) → (v ≡ 0 → ⊥) → v * 128 + b % 128 ≤ 65535 → before b (Value v u t) ≡ Value (v * 128 + b % 128) (u + 1) t
 unfolding before
-joins b v t h k = simp (ne-eqb _ _ h, le-ltb _ _ k)
+joins b v u t h k = simp (ne-eqb _ _ h, le-ltb _ _ k)
 
 pub small : (k n : ℕ) → n < 128 → groupsOf (suc k) n ≡ n ∷ []
 unfolding groupsOf
@@ -45,36 +45,36 @@ not-zero Cut h = omega arith
 not-zero NotShortest h = omega arith
 not-zero TooLarge h = omega arith
 
-pub is-value : (r : Parsed) → faultOf r ≡ 0 → r ≡ Value (valueOf r) (restOf r)
-unfolding faultOf valueOf restOf
-is-value (Value v t) h = refl
-is-value (Refused f) h = absurd (not-zero f h)
+pub is-value : (r : Parsed) → faultOf r ≡ 0 → r ≡ Value (valueOf r) (lookedOf r) (restOf r)
+unfolding faultOf valueOf lookedOf restOf
+is-value (Value v u t) h = refl
+is-value (Refused f u) h = absurd (not-zero f h)
 
--- What follows a value is no longer than the bytes it is read from.
-rest-before : (b : ℕ) (r : Parsed) → length (restOf (before b r)) ≤ length (restOf r)
-unfolding before restOf
-rest-before b (Refused f) = omega arith
-rest-before b (Value v t) = go (eqb v 0) (ltb 65535 (v * 128 + b % 128))
+-- No more bytes are looked at than there are.
+pub one-byte-more : (b : ℕ) (r : Parsed) → lookedOf (before b r) ≡ lookedOf r + 1
+unfolding before lookedOf
+one-byte-more b (Refused f u) = refl
+one-byte-more b (Value v u t) = go (eqb v 0) (ltb 65535 (v * 128 + b % 128))
   where
-    go : (x y : Bool) → length (restOf (pick x (Refused NotShortest) (pick y (Refused TooLarge) (Value (v * 128 + b % 128) t)))) ≤ length t
-    go true y = omega arith
-    go false true = omega arith
-    go false false = omega arith
+    go : (x y : Bool) → lookedOf (pick x (Refused NotShortest (u + 1)) (pick y (Refused TooLarge (u + 1)) (Value (v * 128 + b % 128) (u + 1) t))) ≡ u + 1
+    go true y = refl
+    go false true = refl
+    go false false = refl
 
-rest-groups : (k : ℕ) (s : List ℕ) → length (restOf (groups k s)) ≤ length s
-unfolding groups restOf
-rest-groups zero s = omega arith
-rest-groups (suc k) [] = omega arith
-rest-groups (suc k) (b ∷ s) = go (ltb b 128) (rest-groups k s) (rest-before b (groups k s))
+pub looked-groups : (k : ℕ) (s : List ℕ) → lookedOf (groups k s) ≤ length s
+unfolding groups lookedOf
+looked-groups zero s = omega arith
+looked-groups (suc k) [] = omega arith
+looked-groups (suc k) (b ∷ s) = go (ltb b 128) (looked-groups k s) (one-byte-more b (groups k s))
   where
-    go : (x : Bool) → length (restOf (groups k s)) ≤ length s → length (restOf (before b (groups k s))) ≤ length (restOf (groups k s))
-        → length (restOf (pick x (Value b s) (before b (groups k s)))) ≤ suc (length s)
+    go : (x : Bool) → lookedOf (groups k s) ≤ length s → lookedOf (before b (groups k s)) ≡ lookedOf (groups k s) + 1
+        → lookedOf (pick x (Value b 1 s) (before b (groups k s))) ≤ suc (length s)
     go true h l = omega arith
     go false h l = omega arith
 
-pub rest-fits : (s : List ℕ) → length (restOf (decode s)) ≤ length s
+pub looked-fits : (s : List ℕ) → lookedOf (decode s) ≤ length s
 unfolding decode
-rest-fits s = rest-groups 3 s
+looked-fits s = looked-groups 3 s
 
 -- How many groups a form has: one to three, and no fewer for a larger value.
 some-groups : (k n : ℕ) → 1 ≤ length (groupsOf (suc k) n)
@@ -127,8 +127,11 @@ uleb128-small n h = rw (small 2 n h)
 
 -- Bytes behind a value, or behind a refusal that is no cut, change neither.
 unfoldable pub followed : Parsed → List ℕ → Parsed
-followed (Value v rest) t = Value v (rest ++ t)
-followed (Refused f) t = Refused f
+followed (Value v u rest) t = Value v u (rest ++ t)
+followed (Refused f u) t = Refused f u
+
+abbrev NotCut : Parsed → Type 0
+NotCut r = (u : ℕ) → r ≡ Refused Cut u → ⊥
 
 followed-pick : (x : Bool) (i j : Parsed) (t : List ℕ) → pick x (followed i t) (followed j t) ≡ followed (pick x i j) t
 followed-pick true i j t = refl
@@ -136,33 +139,35 @@ followed-pick false i j t = refl
 
 before-followed : (b : ℕ) (r : Parsed) (t : List ℕ) → before b (followed r t) ≡ followed (before b r) t
 unfolding before followed
-before-followed b (Refused f) t = refl
-before-followed b (Value v rest) t =
-    ap (λ (r : Parsed). pick (eqb v 0) (Refused NotShortest) r) (followed-pick (ltb 65535 (v * 128 + b % 128)) (Refused TooLarge) (Value (v * 128 + b % 128) rest) t)
-    ∙ followed-pick (eqb v 0) (Refused NotShortest) (pick (ltb 65535 (v * 128 + b % 128)) (Refused TooLarge) (Value (v * 128 + b % 128) rest)) t
+before-followed b (Refused f u) t = refl
+before-followed b (Value v u rest) t =
+    ap (λ (r : Parsed). pick (eqb v 0) (Refused NotShortest (u + 1)) r)
+    (followed-pick (ltb 65535 (v * 128 + b % 128)) (Refused TooLarge (u + 1)) (Value (v * 128 + b % 128) (u + 1) rest) t)
+    ∙ followed-pick (eqb v 0) (Refused NotShortest (u + 1))
+    (pick (ltb 65535 (v * 128 + b % 128)) (Refused TooLarge (u + 1)) (Value (v * 128 + b % 128) (u + 1) rest)) t
 
-pub refused-stays : (b : ℕ) (f : Refusal) → before b (Refused f) ≡ Refused f
+pub refused-stays : (b : ℕ) (f : Refusal) (u : ℕ) → before b (Refused f u) ≡ Refused f (u + 1)
 unfolding before
-refused-stays b f = refl
+refused-stays b f u = refl
 
-group-followed : (k b : ℕ) (s t : List ℕ) → ((groups k s ≡ Refused Cut → ⊥) → groups k (s ++ t) ≡ followed (groups k s) t)
-    → (pick (ltb b 128) (Value b s) (before b (groups k s)) ≡ Refused Cut → ⊥)
-    → pick (ltb b 128) (Value b (s ++ t)) (before b (groups k (s ++ t))) ≡ followed (pick (ltb b 128) (Value b s) (before b (groups k s))) t
+group-followed : (k b : ℕ) (s t : List ℕ) → (NotCut (groups k s) → groups k (s ++ t) ≡ followed (groups k s) t)
+    → NotCut (pick (ltb b 128) (Value b 1 s) (before b (groups k s)))
+    → pick (ltb b 128) (Value b 1 (s ++ t)) (before b (groups k (s ++ t))) ≡ followed (pick (ltb b 128) (Value b 1 s) (before b (groups k s))) t
 unfolding followed
 group-followed k b s t rest h = go (ltb b 128) h
   where
-    go : (x : Bool) → (pick x (Value b s) (before b (groups k s)) ≡ Refused Cut → ⊥)
-        → pick x (Value b (s ++ t)) (before b (groups k (s ++ t))) ≡ followed (pick x (Value b s) (before b (groups k s))) t
+    go : (x : Bool) → NotCut (pick x (Value b 1 s) (before b (groups k s)))
+        → pick x (Value b 1 (s ++ t)) (before b (groups k (s ++ t))) ≡ followed (pick x (Value b 1 s) (before b (groups k s))) t
     go true l = refl
-    go false l = ap (before b) (rest (λ q. l (ap (before b) q ∙ refused-stays b Cut))) ∙ before-followed b (groups k s) t
+    go false l = ap (before b) (rest (λ u q. l (u + 1) (ap (before b) q ∙ refused-stays b Cut u))) ∙ before-followed b (groups k s) t
 
-groups-followed : (k : ℕ) (s t : List ℕ) → (groups k s ≡ Refused Cut → ⊥) → groups k (s ++ t) ≡ followed (groups k s) t
+groups-followed : (k : ℕ) (s t : List ℕ) → NotCut (groups k s) → groups k (s ++ t) ≡ followed (groups k s) t
 unfolding groups followed
 groups-followed zero s t h = refl
-groups-followed (suc k) [] t h = absurd (h refl)
+groups-followed (suc k) [] t h = absurd (h 0 refl)
 groups-followed (suc k) (b ∷ s) t h = group-followed k b s t (groups-followed k s t) h
 
-pub decode-followed : (s t : List ℕ) → (decode s ≡ Refused Cut → ⊥) → decode (s ++ t) ≡ followed (decode s) t
+pub decode-followed : (s t : List ℕ) → ((u : ℕ) → decode s ≡ Refused Cut u → ⊥) → decode (s ++ t) ≡ followed (decode s) t
 unfolding decode
 decode-followed s t h = groups-followed 3 s t h
 

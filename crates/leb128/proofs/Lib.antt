@@ -1,3 +1,4 @@
 pub mod Laws
 pub mod GroupLaws
 pub mod RoundTrip
+pub mod Figure

@@ -1,2 +1,3 @@
 pub mod Leb128
+pub mod Claims
 pub mod Cases

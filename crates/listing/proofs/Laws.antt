@@ -109,7 +109,7 @@ line-laid {room} {at = at} h p q = record { room = simp (le-leb (at + longestLin
 line-words : (l : Edge) → words l ++ newline ≡ edgeLine l
 unfolding eventsLine endLine badLine
 line-words (Count count) = refl
-line-words (Bad number place) = refl
+line-words (Bad number place looked) = refl
 line-words (End count) = refl
 
 pub ended : {before after : List ℕ} {at place : ℕ} (l : Edge) → Laid before at (words l ++ newline) after place → Laid before at (edgeLine l) after place

@@ -7,7 +7,7 @@ use lib.ListN.{length}
 use lib.Seq.{sets}
 use Rattle.listing.specs.declared.Edge.{Edge}
 use Rattle.listing.specs.declared.Edge.the-variants.{Count, Bad, End}
-use Rattle.listing.specs.Listing.{decimal, eventsText, endText, badText, atText}
+use Rattle.listing.specs.Listing.{decimal, eventsText, endText, badText, atText, afterText}
 
 -- The text laid at a place of the room before gives the room after, and the place behind it.
 pub record Laid (before : List ℕ) (at : ℕ) (text : List ℕ) (after : List ℕ) (place : ℕ) : Type 0 where
@@ -16,7 +16,7 @@ pub record Laid (before : List ℕ) (at : ℕ) (text : List ℕ) (after : List �
 
 abbrev pub words : Edge → List ℕ
 words (Count count) = eventsText ++ decimal count
-words (Bad number place) = (badText ++ decimal number) ++ (atText ++ decimal place)
+words (Bad number place looked) = ((badText ++ decimal number) ++ (atText ++ decimal place)) ++ (afterText ++ decimal looked)
 words (End count) = endText ++ decimal count
 
 -- The last two digits of a decimal number: tens and units.

@@ -51,6 +51,9 @@ badText = 98 ∷ 97 ∷ 100 ∷ 32 ∷ []
 abbrev pub atText : List ℕ  -- " at "
 atText = 32 ∷ 97 ∷ 116 ∷ 32 ∷ []
 
+abbrev pub afterText : List ℕ  -- " after "
+afterText = 32 ∷ 97 ∷ 102 ∷ 116 ∷ 101 ∷ 114 ∷ 32 ∷ []
+
 abbrev pub resetText : List ℕ  -- " reset"
 resetText = 32 ∷ 114 ∷ 101 ∷ 115 ∷ 101 ∷ 116 ∷ []
 
@@ -101,19 +104,19 @@ eventText (Mark n) refused value = markText ++ decimal n
 unfoldable pub line : ℕ → Event → ℕ → ℕ → List ℕ
 line index e refused value = (decimal index ++ eventText e refused value) ++ newline
 
--- `events 3`, `end 3`, `bad 31 at P`.
+-- `events 3`, `end 3`; `bad 31 at P`, and 02, Req 02: "the `bad` line gains ` after K`".
 unfoldable pub eventsLine : ℕ → List ℕ
 eventsLine count = (eventsText ++ decimal count) ++ newline
 
 unfoldable pub endLine : ℕ → List ℕ
 endLine count = (endText ++ decimal count) ++ newline
 
-unfoldable pub badLine : ℕ → ℕ → List ℕ
-badLine number place = ((badText ++ decimal number) ++ (atText ++ decimal place)) ++ newline
+unfoldable pub badLine : ℕ → ℕ → ℕ → List ℕ
+badLine number place looked = (((badText ++ decimal number) ++ (atText ++ decimal place)) ++ (afterText ++ decimal looked)) ++ newline
 
 abbrev pub edgeLine : Edge → List ℕ
 edgeLine (Count count) = eventsLine count
-edgeLine (Bad number place) = badLine number place
+edgeLine (Bad number place looked) = badLine number place looked
 edgeLine (End count) = endLine count
 
 -- ---- a line in lent room

@@ -7,10 +7,10 @@ ghost use Rattle.listing.specs.Listing as rule;
 ghost use Rattle.listing.specs.Laid.{Laid, words, lastTwo};
 use session::Event;
 
-// The lines around those of the events: their count before them; behind them a fault's number and its place, or the end.
+// The lines around those of the events: their count before them; behind them a fault's number, its place and the bytes looked at there, or the end.
 pub enum Edge {
     Count(u16),
-    Bad(u8, usize),
+    Bad(u8, usize, usize),
     End(u16),
 }
 
@@ -228,15 +228,16 @@ fn put_event(room: &mut [u8], at: usize, e: Event, refused: u8, value: u8) -> us
 
 // An edge but for the end of its line.
 fn put_words(room: &mut [u8], at: usize, l: Edge) -> usize
-    requires { ⌜ at + 48 ≤ length (now room) ⌝ }
+    requires { ⌜ at + 75 ≤ length (now room) ⌝ }
     ensures { λ r. ⌜ Laid (now (room .entry)) at (words l) (now (room .exit)) r ⌝ }
-    ensures bound { λ r. ⌜ r ≤ at + 48 ⌝ }
+    ensures bound { λ r. ⌜ r ≤ at + 75 ⌝ }
 {
     match l {
         Edge::Count(count) => put_number(room, at, b"events ", count as usize),
-        Edge::Bad(number, place) => {
+        Edge::Bad(number, place, looked) => {
             let p = put_number(room, at, b"bad ", number as usize);
-            put_number(room, p, b" at ", place)
+            let q = put_number(room, p, b" at ", place);
+            put_number(room, q, b" after ", looked)
         }
         Edge::End(count) => put_number(room, at, b"end ", count as usize),
     }
@@ -266,7 +267,7 @@ fn holds(room: usize, at: usize) -> bool
     true
 }
 
-// `events N`, `bad N at P`, `end N`.
+// `events N`, `bad N at P after K`, `end N`.
 pub fn put_edge(room: &mut [u8], at: usize, l: Edge) -> usize
     ensures place { λ r. ⌜ r ≡ rule.linePlace (length (now (room .entry))) at (rule.edgeLine l) ⌝ }
     ensures room { λ r. ⌜ now (room .exit) ≡ rule.lineRoom (now (room .entry)) at (rule.edgeLine l) ⌝ }

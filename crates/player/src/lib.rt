@@ -17,6 +17,7 @@ use rules::CoreOutcome;
 use rules::Reply;
 use session::End;
 use session::Event;
+use session::Fault;
 use session::Header;
 use session::Item;
 
@@ -84,6 +85,15 @@ fn lay_edge(room: &mut [u8], at: usize, l: Edge) -> usize
     lay(room, at, &aside[..n])
 }
 
+// The line of a fault, with its place and the bytes looked at there.
+fn lay_fault(room: &mut [u8], at: usize, f: Fault, place: usize, looked: usize) -> usize
+    requires { ⌜ at + text.longestLine ≤ 327840 ⌝ }
+    ensures laid { λ r. ⌜ Laid (now (room .entry)) at (text.badLine (reading.faultNumber f) place looked) (now (room .exit)) r ⌝ }
+    ensures bound { λ r. ⌜ r ≤ at + text.longestLine ⌝ }
+{
+    lay_edge(room, at, Edge::Bad(session::fault_number(f), place, looked))
+}
+
 // ---- an event
 
 // A mark has no effect.
@@ -126,7 +136,7 @@ fn put_closing(s: &[u8], from: usize, count: u16, room: &mut [u8], at: usize) ->
 {
     match session::end_at(s, from) {
         End::Clean => lay_edge(room, at, Edge::End(count)),
-        End::Bad(f, p) => lay_edge(room, at, Edge::Bad(session::fault_number(f), p)),
+        End::Bad(f, p, looked) => lay_fault(room, at, f, p, looked),
     }
 }
 
@@ -144,7 +154,7 @@ fn play_events(s: &[u8], count: u16, first: usize, room: &mut [u8], at: usize) -
     let mut index = 0u16;
     while index < count {
         match reading_place::event_from(s, from) {
-            Item::Bad(f, p) => return lay_edge(room, place, Edge::Bad(session::fault_number(f), p)),
+            Item::Bad(f, p, looked) => return lay_fault(room, place, f, p, looked),
             Item::Next(e, next) => {
                 let x = play_event(&mut m, k, index, e, room, place);
                 k = x.core;
@@ -163,7 +173,7 @@ fn put_listing(s: &[u8], room: &mut [u8]) -> usize
     ensures bound { λ r. ⌜ r ≤ 327840 ⌝ }
 {
     match session::header_at(s, 0) {
-        Header::Bad(f, p) => lay_edge(room, 0, Edge::Bad(session::fault_number(f), p)),
+        Header::Bad(f, p, looked) => lay_fault(room, 0, f, p, looked),
         Header::Good(count, next) => {
             let at = lay_edge(room, 0, Edge::Count(count));
             play_events(s, count, next, room, at)

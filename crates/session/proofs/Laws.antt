@@ -8,21 +8,23 @@ use borrow.Author.Tests.{lt-ltb}
 use lib.ListN.{length, getD, drop, take, length-drop, drop-of-length-le}
 use lib.Seq.{drop-cons}
 use Rattle.leb128.specs.Leb128 as leb128
-use Rattle.leb128.specs.Leb128.{pick, Parsed, Refusal, decode, groups, restOf, valueOf, faultOf, refusalNumber}
-use Rattle.leb128.proofs.GroupLaws.{rest-fits, is-value, to-end}
+use Rattle.leb128.specs.Leb128.{pick, Parsed, Refusal, decode, groups, restOf, valueOf, faultOf, lookedOf, refusalNumber}
+use Rattle.leb128.proofs.GroupLaws.{is-value, to-end}
+use Rattle.leb128.proofs.Laws.{Answer}
+use Rattle.session.proofs.Form.{looked-within}
 use Rattle.session.specs.declared.Fault.the-variants.{Cut}
 use Rattle.session.specs.declared.Varint.{Varint}
 use Rattle.session.specs.declared.Varint.the-variants.{Value, Bad}
 use Rattle.session.specs.Reading.{refusal, placed, varintAt}
 
-pub past-end : (s : List ℕ) (at : ℕ) → length s ≤ at → Bad Cut (length s) ≡ varintAt s at
+pub past-end : (s : List ℕ) (at : ℕ) → length s ≤ at → Bad Cut (length s) 0 ≡ varintAt s at
 unfolding varintAt placed decode groups refusal
-past-end s at h = let e : min at (length s) ≡ length s = omega arith in rw (drop-of-length-le s h, e)
+past-end s at h = rw (drop-of-length-le s h) (ap (λ (p : ℕ). Bad Cut p 0) (omega arith))
 
 -- one group
-pub one-group : (s : List ℕ) (at : ℕ) → at < length s → getD s at 0 < 128 → Value (getD s at 0) (at + 1) ≡ varintAt s at
+pub one-group : (s : List ℕ) (at : ℕ) → at < length s → getD s at 0 < 128 → Value (getD s at 0) (at + 1) 1 ≡ varintAt s at
 unfolding varintAt placed decode groups
-one-group s at h b = let l = length-drop (suc at) s in let e : length s - length (drop (suc at) s) ≡ at + 1 = omega arith in rw (drop-cons s at 0 h, lt-ltb _ _ b, e)
+one-group s at h b = rw (drop-cons s at 0 h, lt-ltb _ _ b)
 
 -- the refusal of a number
 abbrev pub refusalOf : ℕ → Refusal
@@ -34,24 +36,25 @@ refusal-is leb128.Cut = refl
 refusal-is leb128.NotShortest = refl
 refusal-is leb128.TooLarge = refl
 
-is-refused : (r : Parsed) → (faultOf r ≡ 0 → ⊥) → r ≡ leb128.Refused (refusalOf (faultOf r))
-unfolding faultOf
-is-refused (leb128.Value v rest) h = absurd (h refl)
-is-refused (leb128.Refused f) h = ap leb128.Refused (refusal-is f)
+is-refused : (r : Parsed) → (faultOf r ≡ 0 → ⊥) → r ≡ leb128.Refused (refusalOf (faultOf r)) (lookedOf r)
+unfolding faultOf lookedOf
+is-refused (leb128.Value v u rest) h = absurd (h refl)
+is-refused (leb128.Refused f u) h = ap (λ (g : Refusal). leb128.Refused g u) (refusal-is f)
 
--- the reader's answer on the part that begins at the place: the rest t, the value v, the fault f
-module _ (s : List ℕ) (at : ℕ) (h : at < length s) {t : List ℕ} {v f : ℕ}
-    (a : (t ≡ restOf (decode (take (length s - at) (drop at s)))) × ((v ≡ valueOf (decode (take (length s - at) (drop at s)))) × (f ≡ faultOf (decode (take (length s - at) (drop at s)))))) where
-  pub rest-within : length t ≤ length s
-  rest-within = rw (a .0, to-end at s) (let k = rest-fits (drop at s) in let l = length-drop at s in omega arith)
+-- the reader's answer on the part that begins at the place: the rest t, the value v, the fault f, the bytes looked at u
+module _ (s : List ℕ) (at : ℕ) (h : at < length s) {t : List ℕ} {v f u : ℕ} (a : Answer (decode (take (length s - at) (drop at s))) t v f u) where
+  answer : Answer (decode (drop at s)) t v f u
+  answer = rw (to-end at s) at a
 
-  pub found : f ≡ 0 → Value v (length s - length t) ≡ varintAt s at
+  pub next-within : at + u ≤ length s
+  next-within = rw (answer .1 .1 .1) (looked-within s at (omega arith))
+
+  pub found : f ≡ 0 → Value v (at + u) u ≡ varintAt s at
   unfolding varintAt placed
-  found z = let e = is-value (decode (drop at s)) (rw (to-end at s) at (sym (a .1 .1) ∙ z)) in rw (e, a .0, a .1 .0, to-end at s)
+  found z = rw (is-value (decode (drop at s)) (sym (answer .1 .1 .0) ∙ z), answer .1 .0, answer .1 .1 .1)
 
-  pub refused : {g : Refusal} → refusalOf f ≡ g → (f ≡ 0 → ⊥) → Bad (refusal g) at ≡ varintAt s at
+  pub refused : {g : Refusal} → refusalOf f ≡ g → (f ≡ 0 → ⊥) → Bad (refusal g) at u ≡ varintAt s at
   unfolding varintAt placed
   refused n z =
-      let e : f ≡ faultOf (decode (drop at s)) = rw (to-end at s) at (a .1 .1) in
       let m : min at (length s) ≡ at = omega arith in
-      rw (is-refused (decode (drop at s)) (λ (q : faultOf (decode (drop at s)) ≡ 0). z (e ∙ q)), m, ← n, e)
+      rw (is-refused (decode (drop at s)) (λ (q : faultOf (decode (drop at s)) ≡ 0). z (answer .1 .1 .0 ∙ q)), m, ← n, answer .1 .1 .0, answer .1 .1 .1)

@@ -10,7 +10,7 @@ use Rattle.session.specs.declared.End.the-variants.{Bad as BadEnd}
 use Rattle.session.specs.Reading.{headerAt, eventAt, endAt, follow, eventsAt, NoHeader, Counted, started, session}
 
 module _ (most : ℕ) (s : List ℕ) where
-  pub no-header : {f : Fault} {p : ℕ} → headerAt most s 0 ≡ BadHeader f p → session most s ≡ NoHeader f p
+  pub no-header : {f : Fault} {p k : ℕ} → headerAt most s 0 ≡ BadHeader f p k → session most s ≡ NoHeader f p k
   unfolding session started
   no-header e = rw e
 
@@ -24,7 +24,7 @@ module _ (s : List ℕ) (at : ℕ) where
   none-due = refl
 
   module _ (due : ℕ) where
-    pub stops : {f : Fault} {p : ℕ} → eventAt s at ≡ BadItem f p → eventsAt (suc due) s at ≡ record { events = []; end = BadEnd f p }
+    pub stops : {f : Fault} {p k : ℕ} → eventAt s at ≡ BadItem f p k → eventsAt (suc due) s at ≡ record { events = []; end = BadEnd f p k }
     unfolding eventsAt follow
     stops e = rw e
 

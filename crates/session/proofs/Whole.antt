@@ -4,13 +4,14 @@ use mathlib.Core.List.{List, [], _∷_, _++_, append-assoc, append-nil}
 use mathlib.Core.Path.{_≡_, refl, ap, _∙_}
 use native.Mathlib.Omega.{arith}
 use native.Mathlib.Nat.{add-zero, zero-add, suc-add}
-use borrow.Author.Tests.{ltb-false, le-ltb}
+use borrow.Author.Tests.{ltb-true, ltb-false, le-ltb}
 use lib.Dec.{ltb, lit<}
 use lib.ListN.{length, drop, take, length-append, drop-of-length-le}
 use lib.Seq.{take-append-add}
 use Rattle.leb128.specs.Leb128.{Bytes, uleb128}
 use Rattle.leb128.proofs.GroupLaws.{either, uleb128-small, uleb128-most, uleb128-grows}
 use Rattle.session.specs.declared.Fault.{Fault}
+use Rattle.session.specs.declared.Fault.the-variants.{LeftOver}
 use Rattle.session.specs.declared.Event.{Event}
 use Rattle.session.specs.declared.Event.the-variants.{Reset, Write, Read, Slot, Mark}
 use Rattle.session.specs.declared.Header.{Header}
@@ -20,14 +21,20 @@ use Rattle.session.specs.declared.Item.the-variants.{Next, Bad as BadIte
 use Rattle.session.specs.declared.End.{End}
 use Rattle.session.specs.declared.End.the-variants.{Clean, Bad as BadEnd}
 use Rattle.session.specs.Reading.{headerAt, eventAt, endAt, Events, follow, eventsAt, Reading, NoHeader, Counted, started, session}
+use Rattle.session.specs.Claims.{Found, Located}
 use Rattle.session.specs.Writing.{eventBytes, eventsBytes, sessionBytes, AllFit}
 use Rattle.session.proofs.Walk.{counts, goes-on}
-use Rattle.session.proofs.Form.{Form, within, onward, drop-after, HeaderIs, header-is, header-back, ItemIs, event-is, event-back}
+use Rattle.session.proofs.Form.{Form, within, onward, drop-after, HeaderIs, header-is, HeaderFault, ItemFault, kind, refused, header-back, ItemIs, event-is, event-back}
+
+-- A fault of the event at m, or bytes left over there.
+pub data EndFault (s : List ℕ) (m p due n : ℕ) : Fault → Type 0 where
+  in-event : {f : Fault} → n < due → ItemFault s m p f → EndFault s m p due n f
+  left-over : n ≡ due → p ≡ m → EndFault s m p due n LeftOver
 
 -- How the reading of n of the events due ended, at the place m: with nothing left, or with a fault at m or after it.
 unfoldable pub EndIs : ℕ → List ℕ → ℕ → ℕ → End → Type 0
 EndIs due s m n Clean = (n ≡ due) × (m ≡ length s)
-EndIs due s m n (BadEnd f p) = (n ≤ due) × (m ≤ p) × (p ≤ length s)
+EndIs due s m n (BadEnd f p k) = EndFault s m p due n f × ((most : ℕ) → Located most s f p k)
 
 pub record EventsAre (due : ℕ) (s : List ℕ) (at : ℕ) (r : Events) : Type 0 where
   pub last : ℕ
@@ -40,19 +47,26 @@ unfolding eventsBytes
 none-read s at = record { bytes = refl; place = omega arith }
 
 end-is : (s : List ℕ) (at : ℕ) → at ≤ length s → EndIs 0 s at 0 (endAt s at)
-unfolding endAt EndIs
-end-is s at h = either (EndIs 0 s at 0) (ltb at (length s)) (λ q. omega arith) (λ q. let l = ltb-false at (length s) q in omega arith)
+unfolding endAt EndIs Found
+end-is s at h =
+    either (EndIs 0 s at 0) (ltb at (length s))
+    (λ q. (left-over refl refl, (λ most. record { found = (refl, ltb-true at (length s) q); inside = omega arith })))
+    (λ q. let l = ltb-false at (length s) q in omega arith)
+
+later : {s : List ℕ} {m p due n : ℕ} {f : Fault} → EndFault s m p due n f → EndFault s m p (suc due) (suc n) f
+later (in-event l i) = in-event (omega arith) i
+later (left-over l i) = left-over (omega arith) i
 
 one-more : (due : ℕ) (s : List ℕ) (m n : ℕ) (e : End) → EndIs due s m n e → EndIs (suc due) s m (suc n) e
 unfolding EndIs
 one-more due s m n Clean h = omega arith
-one-more due s m n (BadEnd f p) h = omega arith
+one-more due s m n (BadEnd f p k) h = (later (h .0), h .1)
 
 module _ (s : List ℕ) (b : Bytes s) where
   after-item : (due at : ℕ) → at ≤ length s → (i : Item) → ItemIs s at i → ((next : ℕ) → next ≤ length s → EventsAre due s next (eventsAt due s next))
       → EventsAre (suc due) s at (follow i (λ next. eventsAt due s next))
   unfolding follow ItemIs AllFit EndIs eventsBytes
-  after-item due at h (BadItem f p) e rest = record { last = at; form = none-read s at; fit = tt; ends = omega arith }
+  after-item due at h (BadItem f p k) e rest = record { last = at; form = none-read s at; fit = tt; ends = (in-event (omega arith) (e .0), e .1) }
   after-item due at h (Next v next) e rest =
       let r = rest next (within h (e .1)) in
       record { last = r .last; form = onward (e .1) (r .form); fit = (e .0, r .fit); ends = one-more due s (r .last) (length ((eventsAt due s next) .events)) ((eventsAt due s next) .end) (r .ends) }
@@ -71,13 +85,13 @@ pub record Whole (most : ℕ) (s : List ℕ) (c : ℕ) (r : Events) : Type 0 whe
   pub read : EventsAre c s first r
 
 unfoldable pub SessionIs : ℕ → List ℕ → Reading → Type 0
-SessionIs most s (NoHeader f p) = p ≤ length s
+SessionIs most s (NoHeader f p k) = Located most s f p k × HeaderFault s 0 p f
 SessionIs most s (Counted c r) = Whole most s c r
 
 module _ (most : ℕ) (s : List ℕ) (b : Bytes s) where
   started-is : (h : Header) → HeaderIs most s 0 h → SessionIs most s (started s h)
   unfolding started HeaderIs SessionIs
-  started-is (BadHeader f p) e = e
+  started-is (BadHeader f p k) e = e
   started-is (Good c next) e =
       record { most-due = e .0; count-fits = e .1; first = next; header = e .2; read = events-are s b c next (within (omega arith) (e .2)) }
 
@@ -114,9 +128,14 @@ module _ (most c : ℕ) (s u : List ℕ) (es : List Event) (h : c ≤ most) (k :
       let m : 0 + length (uleb128 1 ++ uleb128 c) + length (eventsBytes es) ≡ length (uleb128 1 ++ uleb128 c ++ eventsBytes es) = omega (arith, length-append (uleb128 1 ++ uleb128 c) (eventsBytes es)) in
       counts most s (header-back most s 0 c (eventsBytes es ++ u) h k f) ∙ ap (Counted c) (ap (λ (x : ℕ). eventsAt x s (0 + length (uleb128 1 ++ uleb128 c))) d ∙ i ∙ rw m)
 
-bad-end : (due : ℕ) (s : List ℕ) (m n : ℕ) (x : End) (f : Fault) (p : ℕ) → x ≡ BadEnd f p → EndIs due s m n x → (n ≤ due) × (m ≤ p) × (p ≤ length s)
+behind : {s : List ℕ} {m p due n : ℕ} {f : Fault} → EndFault s m p due n f → (n ≤ due) × (m ≤ p)
+behind (in-event l (kind g)) = let i = g .place in (omega arith, omega arith)
+behind (in-event l (refused r begun b g)) = let i = g .place in (omega arith, omega arith)
+behind (left-over l i) = (omega arith, omega arith)
+
+bad-end : (due : ℕ) (s : List ℕ) (m n : ℕ) (x : End) (f : Fault) (p k : ℕ) → x ≡ BadEnd f p k → EndIs due s m n x → (n ≤ due) × (m ≤ p) × (p ≤ length s)
 unfolding EndIs
-bad-end due s m n x f p e h = rw e at h
+bad-end due s m n x f p k e h = let a = rw e at h in let i = a .1 0 .inside in let o = behind (a .0) in (o .0, o .1, omega arith)
 
 clean-end : (due : ℕ) (s : List ℕ) (m n : ℕ) (x : End) → x ≡ Clean → EndIs due s m n x → (n ≡ due) × (m ≡ length s)
 unfolding EndIs
@@ -134,10 +153,10 @@ module _ (most : ℕ) (s : List ℕ) (b : Bytes s) (c : ℕ) (r : Events) (e : s
   form = onward (w .header) (w .read .form)
 
   -- they are read again in front of other bytes
-  pub stays : (f : Fault) (p : ℕ) → r .end ≡ BadEnd f p → (t : List ℕ)
+  pub stays : (f : Fault) (p k : ℕ) → r .end ≡ BadEnd f p k → (t : List ℕ)
       → session most (take p s ++ t) ≡ Counted c (prepend (r .events) (eventsAt (c - length (r .events)) (take p s ++ t) (length front)))
-  stays f p i t =
-      let x = bad-end c s (w .read .last) (length (r .events)) (r .end) f p i (w .read .ends) in
+  stays f p k i t =
+      let x = bad-end c s (w .read .last) (length (r .events)) (r .end) f p k i (w .read .ends) in
       let m = form .place in
       let d : p ≡ length front + (p - w .read .last) = omega arith in
       let y = take (p - w .read .last) (drop (w .read .last) s) in

@@ -23,26 +23,27 @@ pub enum Event {
     Mark(u16),
 }
 
-// In each of these: what was read, with the place after it, or the fault and its place. A varint is a number in LEB128.
+// In each of these: what was read, with the place after it; or the fault, its place, and how many bytes of its number were looked at (02, Req 02).
+// A varint is a number in LEB128; its last part is how many bytes it used.
 pub enum Varint {
-    Value(u16, usize),
-    Bad(Fault, usize),
+    Value(u16, usize, usize),
+    Bad(Fault, usize, usize),
 }
 
 pub enum Header {
     Good(u16, usize),
-    Bad(Fault, usize),
+    Bad(Fault, usize, usize),
 }
 
 pub enum Item {
     Next(Event, usize),
-    Bad(Fault, usize),
+    Bad(Fault, usize, usize),
 }
 
 // How the reading ended once every event was read.
 pub enum End {
     Clean,
-    Bad(Fault, usize),
+    Bad(Fault, usize, usize),
 }
 
 // The largest count.
@@ -68,20 +69,21 @@ fn varint_at(s: &[u8], at: usize) -> Varint
     ensures { λ r. ⌜ r ≡ rule.varintAt (now (s .entry)) at ⌝ }
 {
     if s.len() <= at {
-        return Varint::Bad(Fault::Cut, s.len());
+        return Varint::Bad(Fault::Cut, s.len(), 0);
     }
     let b = s[at];
     if b < 128 {
-        return Varint::Value(b as u16, at + 1);
+        return Varint::Value(b as u16, at + 1, 1);
     }
     let mut value = 0u16;
     let mut fault = 0u8;
-    let rest = leb128::read(&s[at..], &mut value, &mut fault);
+    let mut looked = 0;
+    leb128::read(&s[at..], &mut value, &mut fault, &mut looked);
     match fault {
-        0 => Varint::Value(value, s.len() - rest.len()),
-        30 => Varint::Bad(Fault::Cut, at),
-        31 => Varint::Bad(Fault::NotShortest, at),
-        _ => Varint::Bad(Fault::TooLarge, at),
+        0 => Varint::Value(value, at + looked, looked),
+        30 => Varint::Bad(Fault::Cut, at, looked),
+        31 => Varint::Bad(Fault::NotShortest, at, looked),
+        _ => Varint::Bad(Fault::TooLarge, at, looked),
     }
 }
 
@@ -90,12 +92,12 @@ pub fn header_at(s: &[u8], at: usize) -> Header
     ensures { λ r. ⌜ r ≡ rule.headerAt rule.mostEvents (now (s .entry)) at ⌝ }
 {
     match varint_at(s, at) {
-        Varint::Bad(f, p) => Header::Bad(f, p),
-        Varint::Value(version, next) => {
+        Varint::Bad(f, p, k) => Header::Bad(f, p, k),
+        Varint::Value(version, next, used) => {
             if version == 1 {
                 count_at(s, next)
             } else {
-                Header::Bad(Fault::Version, at)
+                Header::Bad(Fault::Version, at, used)
             }
         }
     }
@@ -105,10 +107,10 @@ fn count_at(s: &[u8], at: usize) -> Header
     ensures { λ r. ⌜ r ≡ rule.counted rule.mostEvents at (rule.varintAt (now (s .entry)) at) ⌝ }
 {
     match varint_at(s, at) {
-        Varint::Bad(f, p) => Header::Bad(f, p),
-        Varint::Value(count, next) => {
+        Varint::Bad(f, p, k) => Header::Bad(f, p, k),
+        Varint::Value(count, next, used) => {
             if MOST_EVENTS < count {
-                Header::Bad(Fault::Count, at)
+                Header::Bad(Fault::Count, at, used)
             } else {
                 Header::Good(count, next)
             }
@@ -121,24 +123,24 @@ pub fn event_at(s: &[u8], at: usize) -> Item
     ensures { λ r. ⌜ r ≡ rule.eventAt (now (s .entry)) at ⌝ }
 {
     match varint_at(s, at) {
-        Varint::Bad(f, p) => Item::Bad(f, p),
-        Varint::Value(kind, next) => of_kind(s, at, kind, next),
+        Varint::Bad(f, p, k) => Item::Bad(f, p, k),
+        Varint::Value(kind, next, used) => of_kind(s, at, kind, next, used),
     }
 }
 
 // The event at a place once its kind is read: its numbers follow.
-fn of_kind(s: &[u8], at: usize, kind: u16, next: usize) -> Item
-    ensures { λ r. ⌜ r ≡ rule.kinded (now (s .entry)) at (Varint.Value kind next) ⌝ }
+fn of_kind(s: &[u8], at: usize, kind: u16, next: usize, used: usize) -> Item
+    ensures { λ r. ⌜ r ≡ rule.kinded (now (s .entry)) at (Varint.Value kind next used) ⌝ }
 {
     if 4 < kind {
-        return Item::Bad(Fault::Kind, at);
+        return Item::Bad(Fault::Kind, at, used);
     }
     if kind == 0 {
         return Item::Next(Event::Reset, next);
     }
     match varint_at(s, next) {
-        Varint::Bad(f, place) => Item::Bad(f, place),
-        Varint::Value(n, after) => match kind {
+        Varint::Bad(f, place, k) => Item::Bad(f, place, k),
+        Varint::Value(n, after, _) => match kind {
             1 => value_at(s, n, after),
             2 => Item::Next(Event::Read(n), after),
             3 => Item::Next(Event::Slot(n), after),
@@ -151,8 +153,8 @@ fn value_at(s: &[u8], address: u16, at: usize) -> Item
     ensures { λ r. ⌜ r ≡ rule.valued address (rule.varintAt (now (s .entry)) at) ⌝ }
 {
     match varint_at(s, at) {
-        Varint::Bad(f, p) => Item::Bad(f, p),
-        Varint::Value(v, next) => Item::Next(Event::Write(address, v), next),
+        Varint::Bad(f, p, k) => Item::Bad(f, p, k),
+        Varint::Value(v, next, _) => Item::Next(Event::Write(address, v), next),
     }
 }
 
@@ -161,7 +163,7 @@ pub fn end_at(s: &[u8], at: usize) -> End
     ensures { λ r. ⌜ r ≡ rule.endAt (now (s .entry)) at ⌝ }
 {
     if at < s.len() {
-        End::Bad(Fault::LeftOver, at)
+        End::Bad(Fault::LeftOver, at, 0)
     } else {
         End::Clean
     }

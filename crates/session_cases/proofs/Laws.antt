@@ -23,7 +23,7 @@ module _ (s : List ℕ) (count n at : ℕ) where
   unfolding outcome
   first-due z = rw (z, sub-zero, zero-add)
 
-  pub stopped : {f : Fault} {p : ℕ} → n < count → eventAt s at ≡ BadItem f p → after n (eventsAt (count - n) s at) ≡ Broken n f p
+  pub stopped : {f : Fault} {p k : ℕ} → n < count → eventAt s at ≡ BadItem f p k → after n (eventsAt (count - n) s at) ≡ Broken n f p k
   unfolding ended
   stopped h e = let d : count - n ≡ suc (count - (n + 1)) = omega arith in rw (d, stops s at (count - (n + 1)) e, add-zero)
 

@@ -10,11 +10,11 @@ use Rattle.session_cases.specs.declared.Outcome.the-variants.{Refused, W
 -- A reading in short: how many events, and how it ended.
 unfoldable pub ended : ℕ → End → Outcome
 ended n Clean = Whole n
-ended n (Bad f p) = Broken n f p
+ended n (Bad f p k) = Broken n f p k
 
 unfoldable pub outcome : Events → Outcome
 outcome r = ended (length (r .events)) (r .end)
 
 unfoldable pub outcomeOf : Reading → Outcome
-outcomeOf (NoHeader f p) = Refused f p
+outcomeOf (NoHeader f p k) = Refused f p k
 outcomeOf (Counted count r) = outcome r

@@ -11,15 +11,15 @@ use session::Fault;
 use session::Header;
 use session::Item;
 
-// A whole session: its header refused; its count, all read; or the events read, the fault after them and its place.
+// A whole session: its header refused; its count, all read; or the events read and the fault after them. A fault has its place and the bytes looked at there.
 enum Outcome {
-    Refused(Fault, usize),
+    Refused(Fault, usize, usize),
     Whole(u16),
-    Broken(u16, Fault, usize),
+    Broken(u16, Fault, usize, usize),
 }
 
 fn main() {
-    let mut text = io::buffer();
+    let mut text = io::large_buffer();
     let n = io::read_full(0, &mut text);
     lines(&text[..n]);
 }
@@ -103,7 +103,7 @@ fn read_all(s: &[u8]) -> Outcome
     ensures { λ r. ⌜ r ≡ rule.outcomeOf (reading.session reading.mostEvents (now (s .entry))) ⌝ }
 {
     match session::header_at(s, 0) {
-        Header::Bad(f, p) => Outcome::Refused(f, p),
+        Header::Bad(f, p, looked) => Outcome::Refused(f, p, looked),
         Header::Good(count, next) => events_from(s, count, next),
     }
 }
@@ -115,26 +115,26 @@ fn events_from(s: &[u8], count: u16, first: usize) -> Outcome
     let mut n = 0u16;
     while n < count {
         match reading_place::event_from(s, at) {
-            Item::Bad(f, p) => return Outcome::Broken(n, f, p),
+            Item::Bad(f, p, looked) => return Outcome::Broken(n, f, p, looked),
             Item::Next(_, next) => at = next,
         }
         n += 1;
     }
     match session::end_at(s, at) {
-        End::Bad(f, p) => Outcome::Broken(n, f, p),
+        End::Bad(f, p, looked) => Outcome::Broken(n, f, p, looked),
         End::Clean => Outcome::Whole(n),
     }
 }
 
 fn report(s: &[u8]) {
     match read_all(s) {
-        Outcome::Refused(f, p) => {
+        Outcome::Refused(f, p, looked) => {
             io::write_all(STDOUT_FILENO, b"header: ");
-            bad(f, p);
+            bad(f, p, looked);
         }
-        Outcome::Broken(n, f, p) => {
+        Outcome::Broken(n, f, p, looked) => {
             events(n);
-            bad(f, p);
+            bad(f, p, looked);
         }
         Outcome::Whole(n) => {
             events(n);
@@ -148,9 +148,11 @@ fn events(n: u16) {
     io::write_all(STDOUT_FILENO, b" events: ");
 }
 
-fn bad(f: Fault, p: usize) {
+fn bad(f: Fault, p: usize, looked: usize) {
     io::write_all(STDOUT_FILENO, b"bad ");
     io::print_decimal(STDOUT_FILENO, session::fault_number(f) as u64);
     io::write_all(STDOUT_FILENO, b" at ");
     io::print_decimal(STDOUT_FILENO, p as u64);
+    io::write_all(STDOUT_FILENO, b" after ");
+    io::print_decimal(STDOUT_FILENO, looked as u64);
 }

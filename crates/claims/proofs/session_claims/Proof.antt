@@ -2,6 +2,7 @@ use Prim.Native.Nat.{ℕ, _≤_}
 use mathlib.Core.Path.{subst}
 use lib.ListN.{length}
 use Rattle.leb128.proofs.RoundTrip as leb128
+use Rattle.leb128.proofs.Figure.{looked}
 use Rattle.session.specs.Reading.{mostEvents}
 use Rattle.session.proofs.Sessions as sessions
 use Rattle.bench_record.proofs.FirstLines.{first-events, before-a-fault}
@@ -22,6 +23,7 @@ values =
       short = λ s b es e. subst (λ (n : ℕ). length s ≤ n) sessions.largest-size (sessions.size mostEvents s b es e);
       leb128-sound = leb128.sound;
       leb128-complete = leb128.complete;
+      leb128-looked = looked;
     }
 
 pub session-claims-spec : {M : Type 1} → statement M

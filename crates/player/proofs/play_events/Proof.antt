@@ -7,7 +7,7 @@ use Rattle.session.specs.Reading.{eventsAt}
 use Rattle.rules.specs.Definitions.Run.{fresh}
 use Rattle.rules.specs.Definitions.Answers.{controller}
 use Rattle.bench_record.specs.Record.{body}
-use Rattle.bench_record.proofs.Laws.{Goes, begun, other-rest, first-rest, bad-line, bad-laid, stepped, last-line, laid-all}
+use Rattle.bench_record.proofs.Laws.{Goes, begun, other-rest, first-rest, bad-line, stepped, last-line, laid-all}
 use Rattle.player.proofs.Indices.{step-fits}
 use Rattle.player.proofs.play_events.Statement.{statement}
 use Rattle.player.proofs.play_events.Tie as tie
@@ -27,14 +27,13 @@ play-events-spec =
     (λ c. let x = c .before .before .before .before .before .args in (omega arith, refl, omega arith, other-rest (first-rest _ (c .before .before .fresh .ensures) (x .s .now) (x .count) (x .first)) (begun (x .room .now) (x .at) _)))
     (λ c κs. tt)
     (λ c. search needs)
-    (λ c κs. tt)
     (λ c κs. omega arith)
     (λ c. omega arith)
-    (λ c. let x = c .before .before .before .before .before .before .before .before .before .before .before .before .before .before .before .before .args in
-    let l = c .before .before .before .before .before .before .before .before .before .before .loop in (
-      bad-laid _ _ _ (l .inv .3) (bad-line (controller (l .m) (l .k)) (x .s .now) (x .count) (l .index) (l .from) (c .before .before .before .before .before .before .before .before .before .loop-test .taken) (sym (c .before .before .before .before .before .before .before .before .event-from .ensures) ∙ c .before .before .before .before .before .before .f .given .1)) (c .before .before .before .fault-number .ensures)
-          (c .before .before .lay-edge .ensures .0),
-      (let b = c .before .before .lay-edge .ensures .1 in omega arith),
+    (λ c. let x = c .before .before .before .before .before .before .before .before .before .before .before .before .before .before .before .args in
+    let l = c .before .before .before .before .before .before .before .before .before .loop in (
+      laid-all (other-rest (bad-line (controller (l .m) (l .k)) (x .s .now) (x .count) (l .index) (l .from) (c .before .before .before .before .before .before .before .before .loop-test .taken) (sym (c .before .before .before .before .before .before .before .event-from .ensures) ∙ c .before .before .before .before .before .f .given .1)) (l .inv .3))
+          (c .before .before .lay-fault .ensures .0),
+      (let b = c .before .before .lay-fault .ensures .1 in omega arith),
     ))
     (λ c. search needs)
     (λ c κs. omega arith)
