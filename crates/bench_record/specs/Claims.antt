@@ -32,14 +32,22 @@ pub record BadLines : Type 0 where
   pub header : (s : List ℕ) (f : Fault) (p k : ℕ) → session mostEvents s ≡ NoHeader f p k → listingOf s ≡ badLine (faultNumber f) p k
   pub events : (s : List ℕ) (count : ℕ) (r : Events) (f : Fault) (p k : ℕ) → session mostEvents s ≡ Counted count r → r .end ≡ Bad f p k
       → listingOf s ≡ (eventsLine count ++ lines fresh 0 (r .events)) ++ badLine (faultNumber f) p k
-  -- the line of the empty session, and that of a count above 4,096, in bytes: "bad 30 at 0 after 0", "bad 34 at 1 after 2"
+  -- closed lines, in bytes: one of each fault, and one with a long place
+  -- "bad 30 at 0 after 0"
   pub empty : listingOf [] ≡ 98 ∷ 97 ∷ 100 ∷ 32 ∷ 51 ∷ 48 ∷ 32 ∷ 97 ∷ 116 ∷ 32 ∷ 48 ∷ 32 ∷ 97 ∷ 102 ∷ 116 ∷ 101 ∷ 114 ∷ 32 ∷ 48 ∷ 10 ∷ []
-  pub count-4097 : listingOf (0x01 ∷ 0x81 ∷ 0x20 ∷ [])
-      ≡ 98 ∷ 97 ∷ 100 ∷ 32 ∷ 51 ∷ 52 ∷ 32 ∷ 97 ∷ 116 ∷ 32 ∷ 49 ∷ 32 ∷ 97 ∷ 102 ∷ 116 ∷ 101 ∷ 114 ∷ 32 ∷ 50 ∷ 10 ∷ []
-  -- one of each other fault
-  pub cut : listingOf (0x01 ∷ 0x81 ∷ []) ≡ badLine 30 1 1
-  pub not-shortest : listingOf (0x83 ∷ 0x00 ∷ []) ≡ badLine 31 0 2
-  pub too-large : listingOf (0x80 ∷ 0x80 ∷ 0x80 ∷ []) ≡ badLine 32 0 3
-  pub version : listingOf (0x02 ∷ []) ≡ badLine 33 0 1
-  pub kind : listingOf (0x01 ∷ 0x01 ∷ 0x05 ∷ []) ≡ eventsLine 1 ++ badLine 35 2 1
-  pub left-over : listingOf (0x01 ∷ 0x00 ∷ 0x07 ∷ []) ≡ eventsLine 0 ++ badLine 36 2 0
+  -- "bad 30 at 1 after 1"
+  pub cut : listingOf (0x01 ∷ 0x81 ∷ []) ≡ 98 ∷ 97 ∷ 100 ∷ 32 ∷ 51 ∷ 48 ∷ 32 ∷ 97 ∷ 116 ∷ 32 ∷ 49 ∷ 32 ∷ 97 ∷ 102 ∷ 116 ∷ 101 ∷ 114 ∷ 32 ∷ 49 ∷ 10 ∷ []
+  -- "bad 31 at 0 after 2"
+  pub not-shortest : listingOf (0x83 ∷ 0x00 ∷ []) ≡ 98 ∷ 97 ∷ 100 ∷ 32 ∷ 51 ∷ 49 ∷ 32 ∷ 97 ∷ 116 ∷ 32 ∷ 48 ∷ 32 ∷ 97 ∷ 102 ∷ 116 ∷ 101 ∷ 114 ∷ 32 ∷ 50 ∷ 10 ∷ []
+  -- "bad 32 at 0 after 3"
+  pub too-large : listingOf (0x80 ∷ 0x80 ∷ 0x80 ∷ []) ≡ 98 ∷ 97 ∷ 100 ∷ 32 ∷ 51 ∷ 50 ∷ 32 ∷ 97 ∷ 116 ∷ 32 ∷ 48 ∷ 32 ∷ 97 ∷ 102 ∷ 116 ∷ 101 ∷ 114 ∷ 32 ∷ 51 ∷ 10 ∷ []
+  -- "bad 33 at 0 after 1"
+  pub version : listingOf (0x02 ∷ []) ≡ 98 ∷ 97 ∷ 100 ∷ 32 ∷ 51 ∷ 51 ∷ 32 ∷ 97 ∷ 116 ∷ 32 ∷ 48 ∷ 32 ∷ 97 ∷ 102 ∷ 116 ∷ 101 ∷ 114 ∷ 32 ∷ 49 ∷ 10 ∷ []
+  -- "bad 34 at 1 after 2"
+  pub count-4097 : listingOf (0x01 ∷ 0x81 ∷ 0x20 ∷ []) ≡ 98 ∷ 97 ∷ 100 ∷ 32 ∷ 51 ∷ 52 ∷ 32 ∷ 97 ∷ 116 ∷ 32 ∷ 49 ∷ 32 ∷ 97 ∷ 102 ∷ 116 ∷ 101 ∷ 114 ∷ 32 ∷ 50 ∷ 10 ∷ []
+  -- "bad 35 at 2 after 1"
+  pub kind : listingOf (0x01 ∷ 0x01 ∷ 0x05 ∷ []) ≡ eventsLine 1 ++ (98 ∷ 97 ∷ 100 ∷ 32 ∷ 51 ∷ 53 ∷ 32 ∷ 97 ∷ 116 ∷ 32 ∷ 50 ∷ 32 ∷ 97 ∷ 102 ∷ 116 ∷ 101 ∷ 114 ∷ 32 ∷ 49 ∷ 10 ∷ [])
+  -- "bad 36 at 2 after 0"
+  pub left-over : listingOf (0x01 ∷ 0x00 ∷ 0x07 ∷ []) ≡ eventsLine 0 ++ (98 ∷ 97 ∷ 100 ∷ 32 ∷ 51 ∷ 54 ∷ 32 ∷ 97 ∷ 116 ∷ 32 ∷ 50 ∷ 32 ∷ 97 ∷ 102 ∷ 116 ∷ 101 ∷ 114 ∷ 32 ∷ 48 ∷ 10 ∷ [])
+  -- "bad 36 at 28675 after 0"
+  pub long-place : badLine 36 28675 0 ≡ 98 ∷ 97 ∷ 100 ∷ 32 ∷ 51 ∷ 54 ∷ 32 ∷ 97 ∷ 116 ∷ 32 ∷ 50 ∷ 56 ∷ 54 ∷ 55 ∷ 53 ∷ 32 ∷ 97 ∷ 102 ∷ 116 ∷ 101 ∷ 114 ∷ 32 ∷ 48 ∷ 10 ∷ []

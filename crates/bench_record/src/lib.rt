@@ -13,7 +13,7 @@ pub fn first_lines()
     ensures fault { λ _. ⌜ LinesStand ⌝ }
 {}
 
-// Claim: the line of a session's fault, with its place and figure.
+// Claim: the line of a session's fault, with its place and how many bytes were looked at there.
 pub fn bad_lines()
     ensures { λ _. ⌜ BadLines ⌝ }
 {}

@@ -5,8 +5,7 @@
 --   codec: `encoded`, `encodedRoom` (crates/encoder); `decoded`, `decodedRoom` of `reading` (crates/decoder)
 --   session: `headerAt`, `eventAt`, `endAt` (crates/session), of which `session` is made; its numbers: `decode` (crates/leb128)
 --   listing: `played`, `playedRoom` of `listingOf` (crates/player); for C: crates/frapmast
--- Nor the numbers and sessions that 01 runs (Cases in crates/leb128 and crates/session), nor the line `bad` (BadLines in crates/bench_record), nor the closed runs
--- `Courses` and `MoreCourses` (crates/rules, crates/closed_runs).
+-- Nor the numbers and sessions that 01 runs (Cases in crates/leb128 and crates/session), nor the closed runs `Courses` and `MoreCourses` (crates/rules, crates/closed_runs).
 --
 -- Legend. The notation is antt's; `rt doc` prints the path of the toolchain's guide, and guides/primer.md beside it has the language.
 --   (x : A) → B        for every x of A, B holds        A → B: if A, then B        A → ⊥: A does not hold
@@ -66,7 +65,7 @@ use Rattle.session.specs.Claims as sessions
 use Rattle.session.specs.declared.Fault.{Fault}
 use Rattle.session.specs.declared.End.the-variants.{Bad}
 use Rattle.session.specs.declared.Event as session-event
-use Rattle.bench_record.specs.Claims.{FirstLines, LinesStand}
+use Rattle.bench_record.specs.Claims.{FirstLines, LinesStand, BadLines}
 use Rattle.claims.specs.Agree as agree
 use Rattle.claims.specs.Decoded.{Decoded}
 
@@ -104,6 +103,8 @@ pub record Sessions : Type 0 where
   -- so do their lines: each event that is read has its line, with the answer of the step rule, whatever follows (crates/bench_record/specs/Claims.antt)
   pub first-lines : FirstLines
   pub lines-stand : LinesStand
+  -- a broken session's last line has the number of its fault, its place and K (crates/bench_record/specs/Claims.antt)
+  pub bad-lines : BadLines
   -- and the fault, unless it is a cut, whatever follows the input
   pub settled : (most : ℕ) (s t : List ℕ) → Bytes s → Settled (session most s) → session most (s ++ t) ≡ session most s
   -- a good session is the bytes of its events, and the bytes of at most `most` events are a good session
@@ -219,7 +220,7 @@ pub record Sending : Type 0 where
   --   reply: in an accepted slot of a reply, the levels driven in it, that of this slot included, begin one frame's slots from its RTR bit on, and are at most 32 + 10n
   --   outside: with a reply under way no event changes C, errors or slots of the tally, and none raises TE
   pub kept : (es : List Event) → SendingOver fresh atReset es
-  -- closed runs with their figures for C, errors and slots: sent, exhausted, lost twice, joined, aborted; a request answered, answered in vain, at the bound
+  -- closed runs with their numbers for C, errors and slots: sent, exhausted, lost twice, joined, aborted; a request answered, answered in vain, at the bound
   pub runs : closed.Runs
 
 -- ---- the marked cases (01, Marked cases), one table

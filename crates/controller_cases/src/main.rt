@@ -155,7 +155,7 @@ fn refused(reply: Reply) {
     line(b" refused ", answers::refused_by(reply) as u64);
 }
 
-// The line of a fault of the session, with its place and the bytes looked at there.
+// The line of a fault of the session, with its place and how many bytes were looked at there.
 fn bad(f: Fault, p: usize, looked: usize) {
     io::write_all(STDOUT_FILENO, b"bad ");
     io::print_decimal(STDOUT_FILENO, session::fault_number(f) as u64);

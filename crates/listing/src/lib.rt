@@ -7,7 +7,7 @@ ghost use Rattle.listing.specs.Listing as rule;
 ghost use Rattle.listing.specs.Laid.{Laid, words, lastTwo};
 use session::Event;
 
-// The lines around those of the events: their count before them; behind them a fault's number, its place and the bytes looked at there, or the end.
+// The lines around those of the events: their count before them; behind them a fault's number, its place and how many bytes were looked at there, or the end.
 pub enum Edge {
     Count(u16),
     Bad(u8, usize, usize),

@@ -85,7 +85,7 @@ fn lay_edge(room: &mut [u8], at: usize, l: Edge) -> usize
     lay(room, at, &aside[..n])
 }
 
-// The line of a fault, with its place and the bytes looked at there.
+// The line of a fault, with its place and how many bytes were looked at there.
 fn lay_fault(room: &mut [u8], at: usize, f: Fault, place: usize, looked: usize) -> usize
     requires { ⌜ at + text.longestLine ≤ 327840 ⌝ }
     ensures laid { λ r. ⌜ Laid (now (room .entry)) at (text.badLine (reading.faultNumber f) place looked) (now (room .exit)) r ⌝ }

@@ -156,7 +156,7 @@ begun-kind k z l = claims.kind k (omega (arith, z)) l
 module _ (s : List ℕ) (at : ℕ) (b : Bytes s) (h : at ≤ length s) where
   valued-is : (a next : ℕ) → a ≤ 65535 → Form s at (uleb128 1 ++ uleb128 a) next → (r : Varint) → VarintIs s next r → ItemIs s at (valued a r)
   unfolding valued VarintIs ItemIs Fits eventBytes
-  valued-is a next k f (BadVarint g p u) e = (rw (e .2 .1) (refused (e .2 .0) _ (address a) (rw (e .0) f)), e .1)
+  valued-is a next k f (BadVarint g p u) e = (rw (e .2 .1) (refused (e .2 .0) _ (address a k) (rw (e .0) f)), e .1)
   valued-is a next k f (Value v last used) e = ((k, e .0), onward f (e .1))
 
   operands-is : (k next : ℕ) → (k ≡ 0 → ⊥) → k ≤ 4 → Form s at (uleb128 k) next → (r : Varint) → VarintIs s next r → ItemIs s at (operands s k r)

@@ -45,7 +45,7 @@ ended-is most s due m es (Bad f p k) g h = (h .1 most, in-events g (h .0))
 answered-is : (most : ℕ) (s : List ℕ) (q : Reading) → SessionIs most s q → Answered most s q
 unfolding SessionIs Answered
 answered-is most s (NoHeader f p k) h = (h .0, in-header (h .1))
-answered-is most s (Counted c r) h = (h .most-due, ended-is most s c (h .read .last) (r .events) (r .end) (onward (h .header) (h .read .form)) (h .read .ends))
+answered-is most s (Counted c r) h = (h .most-due, h .read .fit, ended-is most s c (h .read .last) (r .events) (r .end) (onward (h .header) (h .read .form)) (h .read .ends))
 
 pub total : (most : ℕ) (s : List ℕ) → Bytes s → Answered most s (session most s)
 total most s b = answered-is most s (session most s) (session-is most s b)

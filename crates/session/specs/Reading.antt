@@ -38,7 +38,7 @@ refusal leb128.Cut = Cut
 refusal leb128.NotShortest = NotShortest
 refusal leb128.TooLarge = TooLarge
 
--- The number at a place, in LEB128, with the place behind it and the bytes that it used. The place of a fault is "the offset of the number's first byte"; if there is
+-- The number at a place, in LEB128, with the place behind it and how many bytes it used. The place of a fault is "the offset of the number's first byte"; if there is
 -- no byte, the input's length. 02, Req 02: with it goes "how many bytes were looked at".
 unfoldable pub placed : List ℕ → ℕ → leb128.Parsed → Varint
 placed s at (leb128.Value v used rest) = Value v (at + used) used

@@ -11,7 +11,7 @@ use session::Fault;
 use session::Header;
 use session::Item;
 
-// A whole session: its header refused; its count, all read; or the events read and the fault after them. A fault has its place and the bytes looked at there.
+// A whole session: its header refused; its count, all read; or the events read and the fault after them. A fault has its place and how many bytes were looked at there.
 enum Outcome {
     Refused(Fault, usize, usize),
     Whole(u16),

@@ -6,6 +6,7 @@ use Rattle.leb128.proofs.Figure.{looked}
 use Rattle.session.specs.Reading.{mostEvents}
 use Rattle.session.proofs.Sessions as sessions
 use Rattle.bench_record.proofs.FirstLines.{first-events, before-a-fault}
+use Rattle.bench_record.proofs.BadLines.{bad-lines}
 use Rattle.claims.specs.Claims.{Sessions}
 use Rattle.claims.proofs.session_claims.Statement.{statement}
 use Rattle.claims.proofs.session_claims.Tie as tie
@@ -17,6 +18,7 @@ values =
       stand = sessions.prefix;
       first-lines = first-events;
       lines-stand = before-a-fault;
+      bad-lines = bad-lines;
       settled = sessions.stands;
       sound = sessions.sound;
       complete = sessions.complete;

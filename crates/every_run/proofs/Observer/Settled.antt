@@ -615,7 +615,7 @@ module _ (c : Controller) (o : Observer) (s : Same c o) (l : ℕ) where
       ∙ ap (λ (x : Reception). pick (isStored (deliveryIn c o l)) (record { count = 0; channel = x .winner .channel }) (heardReport .message)) (s .core .frame)
       ∙ ap (λ (x : Retries). pick (isStored (deliveryIn c o l)) (record { count = 0; channel = o .frame .winner .channel }) x) (leaves-heard (λ x. x .message) (λ x y. refl) h was)
 
-  -- 0x06 shows a service's figures only where one ends
+  -- 0x06 shows a service's retries and channel only where one ends
   ended-retries : (x : Retries) → pick (either (sentAll t j) (exhaustedIn j)) (retriesOf done) x ≡ pick (either (sentAll t j) (exhaustedIn j)) (retriesT j) x
   unfolding sentAll
   ended-retries x = go (isAway (t .stand)) refl
