@@ -10,10 +10,10 @@ use lib.Dec.{eqb, ltb, leb}
 use lib.ListN.{getD, set, length, take, drop, length-drop, drop-of-length-le}
 use lib.Seq.{take-at, drop-at, sets}
 use borrow.Author.Tests.{eqb-true, leb-true, lt-ltb, le-ltb}
-use Rattle.line.specs.Bits.{pick, bitsValue, bitsValueFrom, Below, none, one}
-use Rattle.line.specs.Check.{checkBit, remainder, check, allOnes}
+use Rattle.line.specs.Bits.{pick, bits, bitsValue, bitsValueFrom, Below, none, one}
+use Rattle.line.specs.Check.{remainder, check, allOnes}
 use Rattle.line.specs.Frame.{Frame, longestData, start, endOfFrame}
-use Rattle.line.proofs.Laws.{next, value-below, value-append, remainder-append}
+use Rattle.line.proofs.Laws.{next, bits-value, value-below, value-append, remainder-append}
 use Rattle.codec.specs.declared.Refusal.{Refusal}
 use Rattle.codec.specs.declared.Refusal.the-variants.{Level, Start, Pair, Length, Check, Acknowledge, EndOfFrame, CutShort, LeftOver, Room}
 use Rattle.codec.specs.declared.Head.{Head}
@@ -79,11 +79,15 @@ value-small l i k m h =
     let b : 2 ^ k ≤ 2 ^ m = pow-le-pow-right (omega arith) h in
     omega arith
 
-pub remainder-next : (r : ℕ) (s : List ℕ) (k : ℕ) → remainder r (view s 0 (k + 1)) ≡ checkBit (remainder r (view s 0 k)) (getD s (10 + k + k / 4) 0)
-unfolding remainder
-remainder-next r s k =
-    let e : 0 + k ≡ k = omega arith in
-    rw (view-last, e) (remainder-append r (view s 0 k) (getD s (10 + k + k / 4) 0 ∷ []))
+-- the bits of a nibble are those of the number that they write
+pub remainder-next : {s : List ℕ} → Below 2 s → (r k : ℕ) →
+    remainder r (view s 0 (4 * (k + 1))) ≡ remainder (remainder r (view s 0 (4 * k))) (bits 4 (bitsValue (view s (4 * k) 4)))
+unfolding bitsValue
+remainder-next {s} l r k =
+    let e : 4 * (k + 1) ≡ 4 * k + 4 = omega arith in
+    let z : 0 + 4 * k ≡ 4 * k = omega arith in
+    let own : bits 4 (bitsValueFrom 0 (view s (4 * k) 4)) ≡ view s (4 * k) 4 = rw (view-length s (4 * k) 4) at (bits-value (view-below l (4 * k) 4) 0) in
+    rw (e, own, view-append s 0 (4 * k) 4, z) (remainder-append r (view s 0 (4 * k)) (view s (4 * k) 4))
 
 -- ---- slots at a place
 
@@ -185,12 +189,12 @@ module _ (s : List ℕ) (j : ℕ) where
 -- ---- the check, the acknowledge and the end
 
 pub right-view : (s : List ℕ) (j : ℕ) → 3 ≤ j →
-    right (seenBits s j) ≡ eqb (bitsValue (view s (4 * j - 12) 15)) (32767 - remainder allOnes (view s 0 (4 * j - 12)))
+    right (seenBits s j) ≡ eqb (bitsValue (view s (4 * (j - 3)) 15)) (32767 - remainder allOnes (view s 0 (4 * (j - 3))))
 unfolding right check allOnes
 right-view s j h =
-    let m : 4 * j + 3 - 15 ≡ 4 * j - 12 = omega arith in
-    let n : 4 * j + 3 - (4 * j - 12) ≡ 15 = omega arith in
-    rw (view-length s 0 (4 * j + 3), m, view-take s 0 (4 * j - 12) (4 * j + 3) (omega arith), view-drop s 0 (4 * j - 12) (4 * j + 3) (omega arith), n, zero-add)
+    let m : 4 * j + 3 - 15 ≡ 4 * (j - 3) = omega arith in
+    let n : 4 * j + 3 - 4 * (j - 3) ≡ 15 = omega arith in
+    rw (view-length s 0 (4 * j + 3), m, view-take s 0 (4 * (j - 3)) (4 * j + 3) (omega arith), view-drop s 0 (4 * (j - 3)) (4 * j + 3) (omega arith), n, zero-add)
 
 pub whole-odd : (j : ℕ) → whole longestData j ≡ true → (7 ≤ j) × (j ≤ 7 + 2 * longestData) × (j % 2 ≡ 1)
 unfolding whole most

@@ -111,16 +111,16 @@ fn value_at(s: &[u8], i: usize, width: usize) -> u16
     x
 }
 
-// The remainder of the first `count` bits.
-fn remainder_of(s: &[u8], count: usize) -> u16
-    requires { ⌜ 10 + count + count / 4 ≤ length (now s) ⌝ }
-    ensures { λ r. ⌜ r ≡ check.remainder check.allOnes (view.view (now (s .entry)) 0 count) ⌝ }
+// The remainder of the first nibbles, as many as asked.
+fn remainder_of(s: &[u8], nibbles: usize) -> u16
+    requires { ⌜ (bits.Below 2 (now s)) × (10 + 5 * nibbles ≤ length (now s)) ⌝ }
+    ensures { λ r. ⌜ r ≡ check.remainder check.allOnes (view.view (now (s .entry)) 0 (4 * nibbles)) ⌝ }
 {
     let mut r = frame_check::ALL_ONES;
-    let mut i = 0;
-    while i < count {
-        r = frame_check::check_bit(r, s[10 + i + i / 4]);
-        i += 1;
+    let mut k = 0;
+    while k < nibbles {
+        r = frame_check::nibble_divided(r, value_at(s, 4 * k, 4) as u8);
+        k += 1;
     }
     r
 }
@@ -130,8 +130,8 @@ fn right(s: &[u8], j: usize) -> bool
     requires { ⌜ (bits.Below 2 (now s)) × (3 ≤ j) × (15 + 5 * j ≤ length (now s)) ⌝ }
     ensures { λ r. ⌜ r ≡ rule.right (view.seenBits (now (s .entry)) j) ⌝ }
 {
-    let covered = 4 * j - 12;
-    value_at(s, covered, 15) == frame_check::ALL_ONES - remainder_of(s, covered)
+    let covered = j - 3;
+    value_at(s, 4 * covered, 15) == frame_check::ALL_ONES - remainder_of(s, covered)
 }
 
 // An odd number of whole nibbles, from 7 to the most.

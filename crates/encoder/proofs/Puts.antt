@@ -1,6 +1,6 @@
 -- Slots laid into lent room, one part after another.
-use Prim.Native.Nat.{ℕ, suc, _+_, _-_, _*_, _/_, _%_, _≤_, _<_}
-use mathlib.Core.Bool.{Bool, true}
+use Prim.Native.Nat.{ℕ, suc, _+_, _*_, _/_, _%_, _≤_, _<_}
+use mathlib.Core.Bool.{Bool}
 use mathlib.Core.List.{List, [], _∷_, _++_, append-assoc}
 use mathlib.Core.Path.{_≡_, ap, _∙_, sym}
 use native.Mathlib.Nat.{div-one}
@@ -9,9 +9,9 @@ use lib.ListN.{getD, set, length, drop, length-append, drop-of-length-le}
 use lib.Seq.{sets}
 use Rattle.line.specs.Bits.{bits}
 use Rattle.line.specs.LineCode.{lineCode, pattern}
-use Rattle.line.specs.Check.{check, remainder, allOnes}
+use Rattle.line.specs.Check.{check}
 use Rattle.line.specs.Frame.{byteBits, covered, carried, start, closingSlots, slots}
-use Rattle.line.proofs.Laws.{next, header-bits, bits-length, bits-split, bits-mod, code-append, code-length, pattern-length, nibble-code, byteBits-length, remainder-append, covered-length}
+use Rattle.line.proofs.Laws.{next, header-bits, bits-length, bits-split, bits-mod, code-append, code-length, pattern-length, nibble-code, byteBits-length, covered-length}
 use Rattle.line.proofs.Room.{sets-append}
 use Rattle.codec.specs.Encode.{given}
 
@@ -80,14 +80,13 @@ three-long a b c = simp (length-append, pattern-length)
 
 -- ---- the check over identifier, command and data
 
-pub check-bits : (i c : ℕ) (bs : List ℕ) → c < 16 →
-    check (bits 12 i ++ (bits 4 c ++ byteBits bs)) ≡ 32767 - remainder (remainder (remainder 32767 (bits 8 (i / 16))) (bits 8 (i % 16 * 16 + c))) (byteBits bs)
-unfolding check allOnes
+pub check-bits : (i c : ℕ) (bs : List ℕ) → c < 16 → check (byteBits (i / 16 ∷ (i % 16 * 16 + c) ∷ bs)) ≡ check (bits 12 i ++ (bits 4 c ++ byteBits bs))
+unfolding byteBits
 check-bits i c bs h =
-    ap (λ (r : ℕ). 32767 - r)
-    (ap (λ (l : List ℕ). remainder 32767 l) (sym (append-assoc (bits 12 i) (bits 4 c) (byteBits bs)) ∙ ap (λ (l : List ℕ). l ++ byteBits bs) (sym (header-bits i c h)))
-    ∙ remainder-append 32767 (bits 8 (i / 16) ++ bits 8 (i % 16 * 16 + c)) (byteBits bs)
-    ∙ ap (λ (r : ℕ). remainder r (byteBits bs)) (remainder-append 32767 (bits 8 (i / 16)) (bits 8 (i % 16 * 16 + c))))
+    ap check
+    (sym (append-assoc (bits 8 (i / 16)) (bits 8 (i % 16 * 16 + c)) (byteBits bs))
+    ∙ ap (λ (l : List ℕ). l ++ byteBits bs) (header-bits i c h)
+    ∙ append-assoc (bits 12 i) (bits 4 c) (byteBits bs))
 
 -- ---- the whole frame
 

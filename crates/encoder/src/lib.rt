@@ -96,9 +96,8 @@ fn check_of_frame(identifier: u16, command: u8, bytes: &[u8]) -> u16
     requires { ⌜ (identifier < 4096) × (command < 16) ⌝ }
     ensures { λ r. ⌜ r ≡ check.check (bits.bits 12 identifier ++ (bits.bits 4 command ++ frame.byteBits (now (bytes .entry)))) ⌝ }
 {
-    let high = frame_check::check_byte(frame_check::ALL_ONES, (identifier / 16) as u8);
-    let low = frame_check::check_byte(high, (identifier % 16 * 16) as u8 + command);
-    frame_check::ALL_ONES - frame_check::check_bytes(low, bytes)
+    let low = (identifier % 16 * 16) as u8 + command;
+    frame_check::check_behind((identifier / 16) as u8, low, bytes)
 }
 
 // All slots of a frame, in room that holds them.

@@ -13,7 +13,7 @@ use lib.Seq.{drop-cons}
 use native.Mathlib.Numerals.{add-one}
 use Rattle.line.specs.Bits.{pick, bits, bitsValueFrom, bitsValue, Below, none, one}
 use Rattle.line.specs.LineCode.{lineCode, pattern}
-use Rattle.line.specs.Frame.{Frame, byteBits, covered, carried, closingSlots, slots, size, start, endOfData, endOfFrame, acknowledgeSlots}
+use Rattle.line.specs.Frame.{Frame, byteBits, covered, carried, slots, size, start, endOfData, endOfFrame, acknowledgeSlots}
 use Rattle.line.specs.Check.{checkBit, remainder, check, allOnes, polynomial}
 
 -- ---- rows
@@ -106,7 +106,7 @@ unfolding remainder
 remainder-append r [] t = refl
 remainder-append r (b ∷ s) t = remainder-append (checkBit r b) s t
 
-checkBit-below : (r b : ℕ) → checkBit r b < 2 ^ 15
+pub checkBit-below : (r b : ℕ) → checkBit r b < 2 ^ 15
 unfolding checkBit polynomial
 checkBit-below r b = go (eqb (r / 2 ^ 14) b)
   where

@@ -15,6 +15,7 @@ right-spec =
     (λ c. omega arith)
     (λ c. omega arith)
     (λ c κs. (c .before .pre .0, omega arith, omega arith))
-    (λ c κs. omega arith)
-    (λ c. let below = remainder-below allOnes (view (c .before .before .before .args .s .now) 0 (4 * c .before .before .before .args .j - 12)) (omega arith) in omega (arith, c .remainder-of .ensures))
-    (λ c. let x = c .before .before .before .args in sym (right-view (x .s .now) (x .j) (omega arith) ∙ simp (← (c .remainder-of .ensures), ← (c .before .value-at .ensures)))))
+    (λ c κs. (c .before .before .pre .0, omega arith))
+    (λ c. let below = remainder-below allOnes (view (c .before .before .before .args .s .now) 0 (4 * (c .before .before .before .args .j - 3))) (omega arith) in omega (arith, c .remainder-of .ensures))
+    (λ c. let x = c .before .before .before .args in
+    sym (right-view (x .s .now) (x .j) (omega arith) ∙ simp (← (c .remainder-of .ensures), ← (c .before .value-at .ensures)))))

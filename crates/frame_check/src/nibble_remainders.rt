@@ -1,0 +1,19 @@
+// Entry k is the remainder of the nibble k, from 0.
+pub const NIBBLE_REMAINDERS: [u16; 16] = [
+    0x0000,
+    0x0F9D,
+    0x1F3A,
+    0x10A7,
+    0x3E74,
+    0x31E9,
+    0x214E,
+    0x2ED3,
+    0x7CE8,
+    0x7375,
+    0x63D2,
+    0x6C4F,
+    0x429C,
+    0x4D01,
+    0x5DA6,
+    0x523B,
+];
