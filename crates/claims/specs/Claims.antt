@@ -28,6 +28,7 @@ use Rattle.line.specs.Bits.{pick, bits, Below}
 use Rattle.line.specs.LineCode.{lineCode, pattern}
 use Rattle.line.specs.Frame.{Frame, Fits, slots}
 use Rattle.line.specs.Layout.{levelOf}
+use Rattle.line.specs.Claims.{Checked}
 use Rattle.codec.specs.Encode.{encodedRoom}
 use Rattle.codec.specs.Decode.{Reading, frame, refused, reading, decoded, decodedRoom}
 use Rattle.codec.specs.declared.Refusal as codec-refusal
@@ -133,6 +134,8 @@ pub record Frames : Type 0 where
   pub level : (f : Frame) (k : ℕ) → levelOf f k ≡ getD (slots f) k 1
   pub table : (n : ℕ) → pattern n ≡ (n / 8 % 2) ∷ (n / 4 % 2) ∷ (n / 2 % 2) ∷ (n % 2) ∷ (1 - n % 2) ∷ []
   pub nibbles : (n : ℕ) (s : List ℕ) → lineCode (bits 4 n ++ s) ≡ pattern n ++ lineCode s
+  -- the check of three frames captured on real buses, and of "123456789" (crates/line/specs/Claims.antt)
+  pub checked : Checked
 
 pub record Matching : Type 0 where
   -- "A frame matches when every tag bit under a mask one equals the identifier's": then, and only then

@@ -154,3 +154,8 @@ pub fn half_of(n: u8, k: u16) -> Half
 pub fn layout_claims()
     ensures { λ _. ⌜ claims.Layout ⌝ }
 {}
+
+// Holds the check of frames captured on real buses; it does nothing.
+pub fn check_claims()
+    ensures { λ _. ⌜ claims.Checked ⌝ }
+{}

@@ -1,6 +1,7 @@
 use Rattle.line.specs.Frame.{size}
 use Rattle.line.proofs.Laws.{slots-length, pattern-row, nibble-code}
 use Rattle.line.proofs.Levels.{level-at}
+use Rattle.line.proofs.Checked.{checked}
 use Rattle.codec.proofs.Exact.{codec}
 use Rattle.claims.specs.Claims.{Frames}
 use Rattle.claims.proofs.frame_claims.Statement.{statement}
@@ -18,6 +19,7 @@ frames =
       level = level-at;
       table = pattern-row;
       nibbles = nibble-code;
+      checked = checked;
     }
 
 pub frame-claims-spec : {M : Type 1} → statement M
