@@ -1,5 +1,5 @@
 // Plays each session of standard input on a fresh controller and writes its number and its listing (01, Session and listing).
-// The input: how many sessions there are, then each, its length in two bytes in front of it, the high one first.
+// The input: how many sessions there are, then each, its length in front of it; both in two bytes, the high one first.
 use libc::STDIN_FILENO;
 use libc::STDOUT_FILENO;
 use rules::Controller;
@@ -11,8 +11,8 @@ use session::Header;
 use session::Item;
 
 fn main() {
-    let count = byte();
-    let mut n = 0u8;
+    let count = number();
+    let mut n = 0u16;
     while n < count {
         line(b"session ", n as u64);
         play_next();
@@ -27,11 +27,17 @@ fn byte() -> u8 {
     b[0]
 }
 
+// The next number of the input: two bytes, the high one first.
+fn number() -> u16 {
+    let high = byte() as u16;
+    let low = byte() as u16;
+    high * 256 + low
+}
+
 fn play_next() {
-    let high = byte() as usize;
-    let low = byte() as usize;
+    let length = number() as usize;
     let mut space = io::large_buffer();
-    let n = io::read_full(STDIN_FILENO, &mut space[..high * 256 + low]);
+    let n = io::read_full(STDIN_FILENO, &mut space[..length]);
     play(&space[..n]);
 }
 

@@ -1,4 +1,4 @@
-use Prim.Native.Nat.{ℕ, _≤_, _+_, _*_}
+use Prim.Native.Nat.{ℕ, _≤_, _+_}
 use mathlib.Core.List.{List, _++_}
 use mathlib.Core.Path.{_≡_, sym}
 use native.Mathlib.Omega.{arith}
@@ -21,13 +21,9 @@ play-next-spec =
     (λ c. search needs)
     (λ c κs. tt)
     (λ c. search needs)
-    (λ c κs. tt)
-    (λ c. search needs)
-    (λ c. search needs)
-    (λ c. search needs)
     (λ c. counted _ _ (search needs))
     (λ c κs. tt)
-    (λ c. in-front _ (c .before .read-full .last .1 .0) (drop (c .before .before .before .before .before .byte .result * 256 + c .before .before .before .before .byte2 .result) (c .before .before .before .large-buffer .result)) (c .before .read-full .ensures .0))
-    (λ c. counted _ _ (in-front _ (c .before .before .read-full .last .1 .0) (drop (c .before .before .before .before .before .before .byte .result * 256 + c .before .before .before .before .before .byte2 .result) (c .before .before .before .before .large-buffer .result)) (c .before .before .read-full .ensures .0)))
+    (λ c. in-front _ (c .before .read-full .last .1 .0) (drop (c .before .before .before .before .number .result) (c .before .before .before .large-buffer .result)) (c .before .read-full .ensures .0))
+    (λ c. counted _ _ (in-front _ (c .before .before .read-full .last .1 .0) (drop (c .before .before .before .before .before .number .result) (c .before .before .before .before .large-buffer .result)) (c .before .before .read-full .ensures .0)))
     (λ c κs. tt)
     (λ c. search needs))
