@@ -1,22 +1,25 @@
--- Which channel takes a frame, and where its bytes go: laws of `winnerFor` and `received`.
-use Prim.Native.Nat.{ℕ, zero, suc, _+_, _%_, _≤_, _<_}
+-- Which channel takes a frame, what it holds, and where the frame's bytes go: laws of `winnerFor` and `received`.
+use Prim.Native.Nat.{ℕ, zero, suc, _+_, _*_, _/_, _%_, _≤_, _<_}
 use mathlib.Core.Bool.{Bool, true, false, false≢true}
-use mathlib.Core.List.{List, [], _∷_}
+use mathlib.Core.List.{List, [], _∷_, _++_}
+use mathlib.Core.Logic.{_↔_}
 use mathlib.Core.Path.{_≡_, refl, sym, _∙_, ap}
 use native.Mathlib.Nat.{zero-add}
 use native.Mathlib.Omega.{arith}
-use borrow.Author.Tests.{le-leb, lt-leb, eqb-true, eqb-false}
-use lib.Dec.{eqb}
-use lib.ListN.{length, getD, set, replicate, length-set}
-use lib.Seq.{getD-set-same, getD-set-other}
+use borrow.Author.Tests.{le-leb, lt-leb, leb-true, leb-false, eqb-true, eqb-false}
+use lib.Dec.{eqb, leb}
+use lib.ListN.{length, getD, set, replicate, length-set, length-append, List·getD-append}
+use lib.Seq.{getD-append-add, getD-set-same, getD-set-other}
 use Rattle.line.specs.Bits.{pick}
-use Rattle.line.specs.Frame.{Frame, Fits}
+use Rattle.line.specs.Check.{check}
+use Rattle.line.specs.Frame.{Frame, Fits, covered}
 use Rattle.line.proofs.Laws.{picked}
-use Rattle.rules.specs.Definitions.Registers.{readOnly, writeOnly, resetValues}
+use Rattle.rules.specs.Definitions.Registers.{both, readOnly, writeOnly, resetValues}
 use Rattle.rules.specs.Definitions.Longest.{capacity}
-use Rattle.rules.specs.Definitions.Channels.{base, takes, nobody, winnerOf, lowest, lowestListening, won, winnerFor}
+use Rattle.rules.specs.Definitions.Channels.{twelve, channels, base, channelAt, lengthOf, drak, noBuffer, ownBuffer, linkedBuffer, bufferOf, matches, listens, takes, nobody, winnerOf, lowest, lowestListening, won, winnerFor}
+use Rattle.rules.proofs.Logic.{both-true}
 use Rattle.rules.proofs.Matching.Lowest.{found}
-use Rattle.rules.specs.Definitions.Mailbox.{mailboxAt, statusByte, laidFrom, stored, retagged, markedCher, markedChtx, markedChrx, rowsWritten, resetMemory}
+use Rattle.rules.specs.Definitions.Mailbox.{mailboxAt, statusByte, laidFrom, stored, checkBytes, retagged, markedCher, markedChtx, markedChrx, rowsWritten, resetMemory}
 use Rattle.every_run.specs.Valid.{high, low}
 use Rattle.rules.specs.Definitions.Delivery.{memoryStored, memoryDelivered}
 use Rattle.rules.specs.Definitions.Service.{memoryEnded, memoryReplied}
@@ -24,7 +27,10 @@ use Rattle.rules.specs.Definitions.Slots.{memoryJudged, judgedSlot, sampledSlot
 use Rattle.rules.specs.Definitions.Host.{resetAll, resets, sleeps, keptByte, byteWritten, hostWritten}
 use Rattle.rules.specs.Definitions.Run.{fresh, refuse, accept, answered, restedSlot, next, after}
 use Rattle.every_run.proofs.Steps.{Step, refusal, reset, wrote, gave, went, rested, step-of}
-use Rattle.every_run.specs.Receiving.{storedFrame, received}
+use Rattle.every_run.specs.Receiving.{storedBytes, storedFrame, received}
+use Rattle.claims.specs.Claims.{bufferChannel, Held}
+use Rattle.rules.specs.declared.Channel.{Channel}
+use Rattle.rules.specs.declared.Buffer.{Buffer}
 use Rattle.rules.specs.declared.Choice.{Choice}
 use Rattle.rules.specs.declared.Choice.the-variants.{Nothing, Lowest}
 use Rattle.rules.specs.declared.Winner.{Winner}
@@ -71,6 +77,78 @@ module _ (m : List ℕ) (high low : ℕ) where
       go : (x : Choice) → lowest (λ c. takes m c high low) 14 0 ≡ x → won m x .matched ≡ false → (k : ℕ) → k < 14 → takes m k high low ≡ false
       go Nothing e h k i = none-found (λ c. takes m c high low) 14 0 e k (omega arith) (omega arith)
       go (Lowest c) e h k i = absurd (false≢true (sym (unfold won winnerOf in h)))
+
+-- ---- what it holds
+
+own-held : (x : Channel) → ownBuffer x .legal ≡ true → (ownBuffer x .pointer ≡ x .pointer % 128) × (ownBuffer x .length ≡ x .status / 8) × (1 ≤ ownBuffer x .length)
+unfolding ownBuffer noBuffer lengthOf
+own-held x =
+    picked (λ (b : Buffer). b .legal ≡ true → (b .pointer ≡ x .pointer % 128) × (b .length ≡ x .status / 8) × (1 ≤ b .length)) (eqb (x .status / 8) 0) noBuffer _ (λ e h. absurd (false≢true h))
+    (λ e h. let n : x .status / 8 ≡ 0 → ⊥ = eqb-false _ _ e in (refl, refl, omega (arith, n)))
+
+own-legal : (x : Channel) → 1 ≤ x .status / 8 → ownBuffer x .legal ≡ true
+unfolding ownBuffer lengthOf
+own-legal x h = picked (λ (b : Buffer). b .legal ≡ true) (eqb (x .status / 8) 0) noBuffer _ (λ e. let z : x .status / 8 ≡ 0 = eqb-true _ _ e in absurd (omega arith)) (λ e. refl)
+
+linked-held : (m : List ℕ) (c link : ℕ) → linkedBuffer m c link .legal ≡ true
+    → (linkedBuffer m c link .pointer ≡ channelAt m link .pointer % 128) × (linkedBuffer m c link .length ≡ channelAt m link .status / 8) × (1 ≤ linkedBuffer m c link .length) × (link < 14)
+unfolding linkedBuffer noBuffer
+linked-held m c link =
+    picked P (leb channels link) noBuffer _ (λ e h. absurd (false≢true h))
+    (λ e. picked P (eqb link c) noBuffer _ (λ d h. absurd (false≢true h)) (λ d h. let o = own-held (channelAt m link) h in (o .0, o .1, o .2, leb-false channels link e)))
+  where
+    P : Buffer → Type 0
+    P b = b .legal ≡ true → (b .pointer ≡ channelAt m link .pointer % 128) × (b .length ≡ channelAt m link .status / 8) × (1 ≤ b .length) × (link < 14)
+
+module _ (m : List ℕ) (c : ℕ) where
+  abbrev link : ℕ
+  link = getD m (base c + 2) 0 % 16
+
+  buffer-as : (b : Bool) → pick b (linkedBuffer m c link) (ownBuffer (channelAt m c)) .legal ≡ true
+      → (pick b (linkedBuffer m c link) (ownBuffer (channelAt m c)) .pointer ≡ getD m (base (pick b link c) + 2) 0 % 128)
+      × (pick b (linkedBuffer m c link) (ownBuffer (channelAt m c)) .length ≡ getD m (base (pick b link c) + 3) 0 / 8)
+  unfolding channelAt
+  buffer-as true h = let o = linked-held m c link h in (o .0, o .1)
+  buffer-as false h = let o = own-held (channelAt m c) h in (o .0, o .1)
+
+  winner-of-held : bufferOf m c .legal ≡ true → Held m (winnerOf m c)
+  unfolding bufferOf winnerOf bufferChannel channelAt lengthOf drak
+  winner-of-held h = let o = buffer-as (eqb (getD m (base c + 3) 0 / 8) 0) h in record { own-drak = refl; pointer-used = o .0; length-used = o .1 }
+
+  legal-as : (b : Bool) → eqb (getD m (base c + 3) 0 / 8) 0 ≡ b → pick b link c < 14 → 1 ≤ getD m (base (pick b link c) + 3) 0 / 8
+      → pick b (linkedBuffer m c link) (ownBuffer (channelAt m c)) .legal ≡ true
+  unfolding channelAt linkedBuffer
+  legal-as true e i n =
+      rw (lt-leb channels link i)
+      (picked (λ (b : Buffer). b .legal ≡ true) (eqb link c) noBuffer (ownBuffer (channelAt m link)) (λ d. absurd (itself (eqb-true _ _ d) (eqb-true _ _ e) n)) (λ d. own-legal (channelAt m link) n))
+    where
+      itself : link ≡ c → getD m (base c + 3) 0 / 8 ≡ 0 → 1 ≤ getD m (base link + 3) 0 / 8 → ⊥
+      itself q z h = let k : getD m (base link + 3) 0 / 8 ≡ getD m (base c + 3) 0 / 8 = ap (λ (x : ℕ). getD m (base x + 3) 0 / 8) q in omega arith
+  legal-as false e i n = own-legal (channelAt m c) n
+
+  pub legal-exactly : c < 14 → (bufferOf m c .legal ≡ true) ↔ ((bufferChannel m c < 14) × (1 ≤ getD m (base (bufferChannel m c) + 3) 0 / 8))
+  unfolding bufferOf bufferChannel channelAt lengthOf
+  legal-exactly i = (λ h. forth (eqb (getD m (base c + 3) 0 / 8) 0) h, λ p. legal-as (eqb (getD m (base c + 3) 0 / 8) 0) refl (p .0) (p .1))
+    where
+      forth : (b : Bool) → pick b (linkedBuffer m c link) (ownBuffer (channelAt m c)) .legal ≡ true
+          → (pick b link c < 14) × (1 ≤ getD m (base (pick b link c) + 3) 0 / 8)
+      forth true h = let o = linked-held m c link h in (o .3, let z = o .1 in let y = o .2 in omega arith)
+      forth false h = let o = own-held (channelAt m c) h in (i, let z = o .1 in let y = o .2 in omega arith)
+
+module _ (m : List ℕ) (high low : ℕ) where
+  takes-legal : (c : ℕ) → takes m c high low ≡ true → bufferOf m c .legal ≡ true
+  unfolding takes
+  takes-legal c h =
+      let a : Bool = matches (twelve (channelAt m c .high) (channelAt m c .low)) (twelve (channelAt m c .«mask_high») (channelAt m c .«mask_low»)) (twelve high low) in
+      both-true a (bufferOf m c .legal) (both-true (listens (channelAt m c) low) (both a (bufferOf m c .legal)) h .1) .1
+
+  pub winner-held : winnerFor m high low .matched ≡ true → Held m (winnerFor m high low)
+  unfolding winnerFor lowestListening
+  winner-held = go (lowest (λ c. takes m c high low) 14 0) refl
+    where
+      go : (x : Choice) → lowest (λ c. takes m c high low) 14 0 ≡ x → won m x .matched ≡ true → Held m (won m x)
+      go Nothing e h = absurd (false≢true (unfold won nobody in h))
+      go (Lowest c) e h = unfold won in winner-of-held m c (takes-legal c (found (λ c. takes m c high low) 14 0 c e .0))
 
 -- ---- bytes laid into the mailbox
 
@@ -124,23 +202,98 @@ module _ (m : List ℕ) (w : Winner) (f : Frame) where
   laid-in : (x : List ℕ) (k : ℕ) → getD (markedChrx (retagged x (w .channel) (high f) (low f)) (w .channel)) (mailboxAt (w .pointer) k) 0 ≡ getD x (mailboxAt (w .pointer) k) 0
   laid-in x k = channel-bytes x (mailboxAt (w .pointer) k) (λ e. mailbox-apart k 0 (omega arith) (omega arith)) (mailbox-apart k 1 (omega arith)) (mailbox-apart k 3 (omega arith))
 
-  pub laid-at : length m ≡ 256 → Fits capacity f → w .matched ≡ true → length (f .bytes) + 1 ≤ w .length
-      → (k : ℕ) → k ≤ length (f .bytes) → getD (received m w f) (mailboxAt (w .pointer) k) 0 ≡ getD (statusByte (low f) (length (f .bytes)) ∷ f .bytes) k 0
-  unfolding storedFrame
+  -- status byte and data, and behind them the check or nothing
+  front : List ℕ
+  front = statusByte (low f) (length (f .bytes)) ∷ f .bytes
+
+  tail : Bool → List ℕ
+  tail b = pick b (checkBytes f) []
+
+  abbrev spare : Bool
+  spare = leb (length (f .bytes) + 3) (w .length)
+
+  tail-short : (b : Bool) → length (tail b) ≤ 2
+  unfolding tail
+  tail-short true = omega arith
+  tail-short false = omega arith
+
+  stored-long : length (storedBytes w f) ≡ length (f .bytes) + 1 + length (tail spare)
+  unfolding storedBytes tail
+  stored-long = let e = length-append (f .bytes) (tail spare) in omega (arith, e)
+
+  laid-at : length m ≡ 256 → Fits capacity f → w .matched ≡ true → length (f .bytes) + 1 ≤ w .length
+      → (k : ℕ) → k < length (f .bytes) + 1 + length (tail spare) → getD (received m w f) (mailboxAt (w .pointer) k) 0 ≡ getD (front ++ tail spare) k 0
+  unfolding storedFrame storedBytes front tail
   laid-at l g e h k i =
       let z = g .size in
+      let s = tail-short spare in
+      let n = stored-long in
       rw (received-fits e h)
       (laid-in _ k
-      ∙ ap (λ (i : ℕ). getD (laidFrom m (w .pointer) 0 (statusByte (low f) (length (f .bytes)) ∷ f .bytes)) (mailboxAt (w .pointer) i) 0) (sym (zero-add k))
-      ∙ laid-same (statusByte (low f) (length (f .bytes)) ∷ f .bytes) m (w .pointer) 0 l (omega arith) k (omega arith))
+      ∙ ap (λ (i : ℕ). getD (laidFrom m (w .pointer) 0 (storedBytes w f)) (mailboxAt (w .pointer) i) 0) (sym (zero-add k))
+      ∙ laid-same (storedBytes w f) m (w .pointer) 0 l (omega arith) k (omega arith))
+
+  pub message-at : length m ≡ 256 → Fits capacity f → w .matched ≡ true → length (f .bytes) + 1 ≤ w .length
+      → (k : ℕ) → k ≤ length (f .bytes) → getD (received m w f) (mailboxAt (w .pointer) k) 0 ≡ getD (statusByte (low f) (length (f .bytes)) ∷ f .bytes) k 0
+  unfolding front
+  message-at l g e h k i = laid-at l g e h k (omega arith) ∙ List·getD-append front (tail spare) 0 k (omega arith)
+
+  tail-at : length m ≡ 256 → Fits capacity f → w .matched ≡ true → length (f .bytes) + 3 ≤ w .length
+      → (k : ℕ) → k < 2 → getD (received m w f) (mailboxAt (w .pointer) (length (f .bytes) + 1 + k)) 0 ≡ getD (checkBytes f) k 0
+  unfolding front tail
+  tail-at l g e h k i =
+      let b : spare ≡ true = le-leb (length (f .bytes) + 3) (w .length) h in
+      let z : length (f .bytes) + 1 + k ≡ suc (length (f .bytes)) + k = omega arith in
+      let t : length (tail spare) ≡ 2 = rw b in
+      laid-at l g e (omega arith) (length (f .bytes) + 1 + k) (omega arith)
+      ∙ ap (λ (j : ℕ). getD (front ++ tail spare) j 0) z ∙ getD-append-add front (tail spare) k 0 ∙ ap (λ (b : Bool). getD (tail b) k 0) b
+
+  pub check-at : length m ≡ 256 → Fits capacity f → w .matched ≡ true → length (f .bytes) + 3 ≤ w .length
+      → (getD (received m w f) (mailboxAt (w .pointer) (length (f .bytes) + 1)) 0 ≡ check (covered f) / 128)
+      × (getD (received m w f) (mailboxAt (w .pointer) (length (f .bytes) + 2)) 0 ≡ check (covered f) % 128 * 2)
+  check-at l g e h =
+      let a : length (f .bytes) + 1 + 0 ≡ length (f .bytes) + 1 = omega arith in
+      let b : length (f .bytes) + 1 + 1 ≡ length (f .bytes) + 2 = omega arith in
+      (rw (← a) (tail-at l g e h 0 (omega arith)), rw (← b) (tail-at l g e h 1 (omega arith)))
+
+  -- what is not laid: a place behind the data is one of the check's
+  behind-data : (a : ℕ) → (length (f .bytes) + 3 ≤ w .length → (a ≡ mailboxAt (w .pointer) (length (f .bytes) + 1) → ⊥) × (a ≡ mailboxAt (w .pointer) (length (f .bytes) + 2) → ⊥))
+      → (b : Bool) → spare ≡ b → (k : ℕ) → length (f .bytes) < k → k < length (f .bytes) + 1 + length (tail b) → a ≡ mailboxAt (w .pointer) k → ⊥
+  unfolding tail
+  behind-data a n true e k i j q =
+      let h = n (leb-true (length (f .bytes) + 3) (w .length) e) in
+      go (eqb k (length (f .bytes) + 1)) refl h
+    where
+      go : (x : Bool) → eqb k (length (f .bytes) + 1) ≡ x → (a ≡ mailboxAt (w .pointer) (length (f .bytes) + 1) → ⊥) × (a ≡ mailboxAt (w .pointer) (length (f .bytes) + 2) → ⊥) → ⊥
+      go true z h = h .0 (q ∙ ap (mailboxAt (w .pointer)) (eqb-true _ _ z))
+      go false z h =
+          let y : k ≡ length (f .bytes) + 1 → ⊥ = eqb-false _ _ z in
+          let v : k ≡ length (f .bytes) + 2 = omega (arith, y) in
+          h .1 (q ∙ ap (mailboxAt (w .pointer)) v)
+  behind-data a n false e k i j q = omega arith
 
   pub elsewhere : w .matched ≡ true → length (f .bytes) + 1 ≤ w .length
       → (a : ℕ) → ((k : ℕ) → k ≤ length (f .bytes) → a ≡ mailboxAt (w .pointer) k → ⊥)
+      → (length (f .bytes) + 3 ≤ w .length → (a ≡ mailboxAt (w .pointer) (length (f .bytes) + 1) → ⊥) × (a ≡ mailboxAt (w .pointer) (length (f .bytes) + 2) → ⊥))
       → (a ≡ base (w .channel) → ⊥) → (a ≡ base (w .channel) + 1 → ⊥) → (a ≡ base (w .channel) + 3 → ⊥) → getD (received m w f) a 0 ≡ getD m a 0
   unfolding storedFrame
-  elsewhere e h a n x y z =
-      rw (received-fits e h)
-      (channel-bytes _ a x y z ∙ laid-other (statusByte (low f) (length (f .bytes)) ∷ f .bytes) m (w .pointer) 0 a (λ j i q. n j (omega arith) (q ∙ ap (mailboxAt (w .pointer)) (zero-add j))))
+  elsewhere e h a n b x y z =
+      rw (received-fits e h) (channel-bytes _ a x y z ∙ laid-other (storedBytes w f) m (w .pointer) 0 a (λ j i q. go j i (leb j (length (f .bytes))) refl (q ∙ ap (mailboxAt (w .pointer)) (zero-add j))))
+    where
+      go : (j : ℕ) → j < length (storedBytes w f) → (x : Bool) → leb j (length (f .bytes)) ≡ x → a ≡ mailboxAt (w .pointer) j → ⊥
+      go j i true v q = n j (leb-true _ _ v) q
+      go j i false v q = let u = leb-false j (length (f .bytes)) v in behind-data a b spare refl j (omega arith) (omega (arith, stored-long)) q
+
+  pub within-places : (a : ℕ) → 128 ≤ a → ((k : ℕ) → k < w .length → a ≡ mailboxAt (w .pointer) k → ⊥) → getD (received m w f) a 0 ≡ getD m a 0
+  unfolding base
+  within-places a i n = go (w .matched) refl (leb (length (f .bytes) + 1) (w .length)) refl
+    where
+      go : (x : Bool) → w .matched ≡ x → (y : Bool) → leb (length (f .bytes) + 1) (w .length) ≡ y → getD (received m w f) a 0 ≡ getD m a 0
+      go false e y h = rw (no-winner e)
+      go true e false h = let u = leb-false (length (f .bytes) + 1) (w .length) h in rw (too-long e (omega arith)) (unfold markedCher in getD-set-other m (base (w .channel) + 3) a _ 0 (λ q. omega arith))
+      go true e true h =
+          let u = leb-true (length (f .bytes) + 1) (w .length) h in
+          elsewhere e u a (λ k j q. n k (omega arith) q) (λ h. (n _ (omega arith), n _ (omega arith))) (λ q. omega arith) (λ q. omega arith) (λ q. omega arith)
 
 -- ---- the map's length, over every run
 

@@ -22,11 +22,12 @@ use mathlib.Core.Bool.{true, false}
 use mathlib.Core.List.{List, [], _∷_, _++_}
 use mathlib.Core.Logic.{_↔_}
 use mathlib.Core.Path.{_≡_}
-use lib.Dec.{ltb}
+use lib.Dec.{eqb, ltb}
 use lib.ListN.{length, getD, take}
 use Rattle.line.specs.Bits.{pick, bits, Below}
 use Rattle.line.specs.LineCode.{lineCode, pattern}
-use Rattle.line.specs.Frame.{Frame, Fits, slots}
+use Rattle.line.specs.Check.{check}
+use Rattle.line.specs.Frame.{Frame, Fits, covered, slots}
 use Rattle.line.specs.Layout.{levelOf}
 use Rattle.line.specs.Claims.{Checked}
 use Rattle.codec.specs.Encode.{encodedRoom}
@@ -35,8 +36,8 @@ use Rattle.codec.specs.declared.Refusal as codec-refusal
 use Rattle.codec.specs.declared.Encoded.the-variants as encoding
 use Rattle.codec.specs.declared.Decoded.the-variants as decoding
 use Rattle.rules.specs.Definitions.Longest.{capacity}
-use Rattle.rules.specs.Definitions.Registers.{readOnly, writeOnly, reserved, fixedBits}
-use Rattle.rules.specs.Definitions.Channels.{base, matches, takes, winnerFor}
+use Rattle.rules.specs.Definitions.Registers.{hasBit, readOnly, writeOnly, reserved, fixedBits}
+use Rattle.rules.specs.Definitions.Channels.{base, bufferOf, matches, takes, winnerFor}
 use Rattle.rules.specs.Statements.Bits.{bitAt}
 use Rattle.rules.specs.Definitions.Mailbox.{mailboxAt, statusByte, markedCher}
 use Rattle.rules.specs.Definitions.Reception.{begun}
@@ -137,6 +138,16 @@ pub record Frames : Type 0 where
   -- the check of three frames captured on real buses, and of "123456789" (crates/line/specs/Claims.antt)
   pub checked : Checked
 
+-- "M_L 0 is a link: the low four pointer bits name the channel whose pointer and length are used"
+unfoldable pub bufferChannel : List ℕ → ℕ → ℕ
+bufferChannel m c = pick (eqb (getD m (base c + 3) 0 / 8) 0) (getD m (base c + 2) 0 % 16) c
+
+-- what w holds of the memory map m
+pub record Held (m : List ℕ) (w : Winner) : Type 0 where
+  pub own-drak : w .«no_acknowledge» ≡ hasBit (getD m (base (w .channel) + 2) 0) 7
+  pub pointer-used : w .pointer ≡ getD m (base (bufferChannel m (w .channel)) + 2) 0 % 128
+  pub length-used : w .length ≡ getD m (base (bufferChannel m (w .channel)) + 3) 0 / 8
+
 pub record Matching : Type 0 where
   -- "A frame matches when every tag bit under a mask one equals the identifier's": then, and only then
   pub sound : (tag mask identifier : ℕ) → matches tag mask identifier ≡ true → (k : ℕ) → bitAt mask k ≡ 1 → bitAt tag k ≡ bitAt identifier k
@@ -145,16 +156,28 @@ pub record Matching : Type 0 where
   pub lowest : (m : List ℕ) (high low : ℕ) → winnerFor m high low .matched ≡ true
       → (takes m (winnerFor m high low .channel) high low ≡ true) × ((k : ℕ) → k < winnerFor m high low .channel → takes m k high low ≡ false)
   pub nobody : (m : List ℕ) (high low : ℕ) → winnerFor m high low .matched ≡ false → (k : ℕ) → k < 14 → takes m k high low ≡ false
+  -- "The winner, its own DRAK, its pointer and length", by the bytes of the map
+  pub held : (m : List ℕ) (high low : ℕ) → winnerFor m high low .matched ≡ true → Held m (winnerFor m high low)
+  -- "a link to itself, to another link or above 13 makes the channel match nothing": where it names a channel that has an M_L, and only there, the channel can match
+  pub links : (m : List ℕ) (c : ℕ) → c < 14 → (bufferOf m c .legal ≡ true) ↔ ((bufferChannel m c < 14) × (1 ≤ getD m (base (bufferChannel m c) + 3) 0 / 8))
 
 -- `received m w f` is what frame f does to the memory map m where w takes it
 pub record Storing : Type 0 where
-  -- "goes whole": "the status byte .. at 0x80 + pointer and the n data bytes after it"
+  -- "goes whole", that is "status, data and these two bytes" (02, Req 04): "the status byte .. at 0x80 + pointer and the n data bytes after it"
   pub whole : (m : List ℕ) (w : Winner) (f : Frame) → length m ≡ 256 → Fits capacity f → w .matched ≡ true → length (f .bytes) + 1 ≤ w .length
       → (k : ℕ) → k ≤ length (f .bytes) → getD (received m w f) (mailboxAt (w .pointer) k) 0 ≡ getD (statusByte (low f) (length (f .bytes)) ∷ f .bytes) k 0
+  -- "when M_L is at least n + 3, the two bytes after the data hold the 15 check bits followed by a zero bit": the frame's check, the high byte first
+  pub check-whole : (m : List ℕ) (w : Winner) (f : Frame) → length m ≡ 256 → Fits capacity f → w .matched ≡ true → length (f .bytes) + 3 ≤ w .length
+      → (getD (received m w f) (mailboxAt (w .pointer) (length (f .bytes) + 1)) 0 ≡ check (covered f) / 128)
+      × (getD (received m w f) (mailboxAt (w .pointer) (length (f .bytes) + 2)) 0 ≡ check (covered f) % 128 * 2)
+  pub check-bits : (f : Frame) → bits 8 (check (covered f) / 128) ++ bits 8 (check (covered f) % 128 * 2) ≡ bits 15 (check (covered f)) ++ (0 ∷ [])
   -- "and nowhere else": beside them only tag and status of the channel that takes it change
   pub nowhere-else : (m : List ℕ) (w : Winner) (f : Frame) → w .matched ≡ true → length (f .bytes) + 1 ≤ w .length
       → (a : ℕ) → ((k : ℕ) → k ≤ length (f .bytes) → a ≡ mailboxAt (w .pointer) k → ⊥)
+      → (length (f .bytes) + 3 ≤ w .length → (a ≡ mailboxAt (w .pointer) (length (f .bytes) + 1) → ⊥) × (a ≡ mailboxAt (w .pointer) (length (f .bytes) + 2) → ⊥))
       → (a ≡ base (w .channel) → ⊥) → (a ≡ base (w .channel) + 1 → ⊥) → (a ≡ base (w .channel) + 3 → ⊥) → getD (received m w f) a 0 ≡ getD m a 0
+  -- so no mailbox byte outside the M_L places from the pointer on changes
+  pub within-m-l : (m : List ℕ) (w : Winner) (f : Frame) (a : ℕ) → 128 ≤ a → ((k : ℕ) → k < w .length → a ≡ mailboxAt (w .pointer) k → ⊥) → getD (received m w f) a 0 ≡ getD m a 0
   -- "If it .. doesn't fit: no mailbox byte": CHER alone
   pub too-long : (m : List ℕ) (w : Winner) (f : Frame) → w .matched ≡ true → w .length ≤ length (f .bytes) → received m w f ≡ markedCher m (w .channel)
   pub unmatched : (m : List ℕ) (w : Winner) (f : Frame) → w .matched ≡ false → received m w f ≡ m

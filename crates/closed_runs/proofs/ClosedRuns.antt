@@ -15,7 +15,7 @@ use Rattle.every_run.specs.Observer.{atReset}
 use Rattle.every_run.specs.Sending.{boundOf}
 use Rattle.closed_runs.specs.Seen.{Counts, seenOver}
 use Rattle.closed_runs.specs.Claims.{Received, Runs, MoreCourses}
-use Rattle.rules.specs.Statements.Runs.{setUp, ones, levels, sent, echoed, overdriven, ran, listening, asking, Stored, lastAnswer, reads, sees, pin, again, sendingData, failures, refuses, readsFrom, writesFrom, framed, heardBy}
+use Rattle.rules.specs.Statements.Runs.{setUp, ones, levels, sent, echoed, overdriven, ran, listening, asking, Stored, lastAnswer, reads, sees, pin, again, sendingData, failures, refuses, readsFrom, writesFrom, framed, heardBy, lower, captured, roomFor}
 use Rattle.rules.specs.declared.Event.the-variants.{Slot, Write}
 
 pub success : Counts (seenOver fresh atReset (setUp ++ (ones 12 ++ echoed)) (Slot 1)) 0 0 60
@@ -313,6 +313,22 @@ runs =
       bound-of-a-deferred-reply = bound-of-a-deferred-reply;
     }
 
+pub linked-length : sees (heardBy (roomFor 0 ++ (Write 0x1A 0x0D ∷ Write 0x7A 0x20 ∷ Write 0x7B 0x2A ∷ [])) (slots captured)) (0x1B ∷ 0xA0 ∷ 0xA1 ∷ 0xA2 ∷ 0xA3 ∷ 0xA4 ∷ []) ≡ 0x01 ∷ 0x82 ∷ 0x00 ∷ 0xFF ∷ 0x1F ∷ 0xF8 ∷ []
+unfolding lastAnswer ran heardBy listening ones levels sees reads captured roomFor
+linked-length = refl
+
+pub answer-check-kept : sees (heardBy (Write 0x19 0x3B ∷ Write 0x1B 0x28 ∷ Write 0x01 0x23 ∷ []) (slots (framed 10 (0xA5 ∷ 0x3C ∷ [])))) (0x1B ∷ 0xFF ∷ 0x80 ∷ 0x81 ∷ 0x82 ∷ 0x83 ∷ []) ≡ 0x2B ∷ 0x42 ∷ 0xA5 ∷ 0x3C ∷ 0x73 ∷ 0xCC ∷ []
+unfolding lastAnswer ran heardBy listening ones levels sees reads framed
+answer-check-kept = refl
+
+pub reply-check-kept : sees (heardBy (Write 0x19 0x3B ∷ Write 0x1B 0x28 ∷ Write 0x01 0x23 ∷ Write 0x1F 0x00 ∷ []) (slots lower)) (0x1B ∷ 0xFF ∷ 0x80 ∷ 0x81 ∷ 0x82 ∷ 0x83 ∷ []) ≡ 0x29 ∷ 0x42 ∷ 0xA5 ∷ 0x3C ∷ 0x6F ∷ 0xF2 ∷ []
+unfolding lastAnswer ran heardBy listening ones levels sees reads lower
+reply-check-kept = refl
+
+pub fault-leaves-none : drop 0x80 (ran fresh (heardBy (roomFor 5) (take 79 (slots captured) ++ (0 ∷ []))) .memory) ≡ replicate 128 0
+unfolding lastAnswer ran heardBy listening ones levels captured roomFor
+fault-leaves-none = refl
+
 pub courses : MoreCourses
 courses =
     record {
@@ -372,4 +388,8 @@ courses =
       reply-unmatched = reply-unmatched;
       reply-high-bits = reply-high-bits;
       reply-held = reply-held;
+      linked-length = linked-length;
+      answer-check-kept = answer-check-kept;
+      reply-check-kept = reply-check-kept;
+      fault-leaves-none = fault-leaves-none;
     }

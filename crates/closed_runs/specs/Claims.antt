@@ -11,7 +11,7 @@ use Rattle.rules.specs.Definitions.Slots.{drives}
 use Rattle.rules.specs.Definitions.Run.{fresh}
 use Rattle.every_run.specs.Sending.{boundOf}
 use Rattle.every_run.specs.Observer.{atReset}
-use Rattle.rules.specs.Statements.Runs.{setUp, ones, levels, echoed, overdriven, ran, listening, asking, Stored, sees, pin, again, sendingData, failures, refuses, readsFrom, writesFrom, framed, heardBy}
+use Rattle.rules.specs.Statements.Runs.{setUp, ones, levels, echoed, overdriven, ran, listening, asking, Stored, sees, pin, again, sendingData, failures, refuses, readsFrom, writesFrom, framed, heardBy, lower, captured, roomFor}
 use Rattle.rules.specs.declared.Event.the-variants.{Slot, Write}
 use Rattle.closed_runs.specs.Seen.{Counts, seenOver}
 
@@ -121,3 +121,10 @@ pub record MoreCourses : Type 0 where
   -- the check of a reply is over the high bits heard, and over the data bytes of the R/W slot
   pub reply-high-bits : sees (heardBy (Write 0x19 0x3A ∷ Write 0x80 0xA5 ∷ Write 0x81 0x3C ∷ Write 0x18 0x52 ∷ Write 0x1E 0x00 ∷ []) (slots (framed 10 (0xA5 ∷ 0x3C ∷ [])))) (0x09 ∷ 0x18 ∷ 0x1B ∷ []) ≡ 0x88 ∷ 0x52 ∷ 0x1B ∷ []
   pub reply-held : sees (heardBy (Write 0x19 0x3A ∷ Write 0x80 0xA5 ∷ Write 0x81 0x3C ∷ []) (take 28 (slots (framed 10 (0xA5 ∷ 0x3C ∷ [])))) ++ (Write 0x80 0x12 ∷ levels (drop 28 (slots (framed 10 (0xA5 ∷ 0x3C ∷ [])))))) (0x09 ∷ 0x1B ∷ []) ≡ 0x88 ∷ 0x1B ∷ []
+  -- 02, Req 04. With a link the M_L of the channel that it names decides
+  pub linked-length : sees (heardBy (roomFor 0 ++ (Write 0x1A 0x0D ∷ Write 0x7A 0x20 ∷ Write 0x7B 0x2A ∷ [])) (slots captured)) (0x1B ∷ 0xA0 ∷ 0xA1 ∷ 0xA2 ∷ 0xA3 ∷ 0xA4 ∷ []) ≡ 0x01 ∷ 0x82 ∷ 0x00 ∷ 0xFF ∷ 0x1F ∷ 0xF8 ∷ []
+  -- an answer to the model's request, and a deferred reply, leave their check
+  pub answer-check-kept : sees (heardBy (Write 0x19 0x3B ∷ Write 0x1B 0x28 ∷ Write 0x01 0x23 ∷ []) (slots (framed 10 (0xA5 ∷ 0x3C ∷ [])))) (0x1B ∷ 0xFF ∷ 0x80 ∷ 0x81 ∷ 0x82 ∷ 0x83 ∷ []) ≡ 0x2B ∷ 0x42 ∷ 0xA5 ∷ 0x3C ∷ 0x73 ∷ 0xCC ∷ []
+  pub reply-check-kept : sees (heardBy (Write 0x19 0x3B ∷ Write 0x1B 0x28 ∷ Write 0x01 0x23 ∷ Write 0x1F 0x00 ∷ []) (slots lower)) (0x1B ∷ 0xFF ∷ 0x80 ∷ 0x81 ∷ 0x82 ∷ 0x83 ∷ []) ≡ 0x29 ∷ 0x42 ∷ 0xA5 ∷ 0x3C ∷ 0x6F ∷ 0xF2 ∷ []
+  -- a frame with a fault in its last slot leaves no byte
+  pub fault-leaves-none : drop 0x80 (ran fresh (heardBy (roomFor 5) (take 79 (slots captured) ++ (0 ∷ []))) .memory) ≡ replicate 128 0

@@ -1,4 +1,4 @@
-// What another module's frame does to the channel that takes it (01, Receiving).
+// What another module's frame does to the channel that takes it (01, Receiving; 02, Req 04).
 ghost use mathlib.Core.Path.{_≡_};
 ghost use Rattle.rules.specs.Definitions.Delivery as rule;
 use rules::Delivery;
@@ -41,13 +41,13 @@ pub fn delivery_of(h: Hearing, r: Reception) -> Delivery
 
 // ---- the memory map
 
-// Status byte and data to the mailbox, the identifier to the tag, CHRx.
+// Status byte, data and, where M_L leaves two places, the check to the mailbox, the identifier to the tag, CHRx.
 fn store(m: &mut [u8; 256], r: Reception)
     ensures { λ _. ⌜ now (m .exit) ≡ rule.memoryStored (now (m .entry)) r ⌝ }
 {
     let w = r.winner;
     let b = r.bytes;
-    memory::store(m, w.pointer, b, reception::data_count(r.nibbles));
+    memory::store(m, w.pointer, w.length, b, reception::data_count(r.nibbles));
     marks::retag(m, w.channel, b[0], b[1]);
     marks::mark_chrx(m, w.channel);
 }

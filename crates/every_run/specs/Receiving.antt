@@ -1,4 +1,4 @@
--- What reaches the mailbox, and what the model acknowledges (01, Receiving; 02, Req 01): one claim about the list of events.
+-- What reaches the mailbox, and what the model acknowledges (01, Receiving; 02, Req 01, Req 04): one claim about the list of events.
 --   received, errorAfter == what a frame does to the memory map, and to 0x07        Log, logNext == the samples since the frame's start, and the memory map that names who takes it
 --   Heeds == what holds of a slot, whoever sends        Delivers == what holds of a slot of another module's frame
 --   Acknowledges == what holds where the model drives an acknowledge
@@ -14,7 +14,7 @@ use Rattle.line.specs.Frame.{Frame, Fits, slots}
 use Rattle.rules.specs.Definitions.Longest.{longestOf}
 use Rattle.rules.specs.Definitions.Registers.{CV, BOV}
 use Rattle.rules.specs.Definitions.Channels.{winnerFor}
-use Rattle.rules.specs.Definitions.Mailbox.{statusByte, laidFrom, retagged, markedCher, markedChrx}
+use Rattle.rules.specs.Definitions.Mailbox.{statusByte, laidFrom, checkBytes, retagged, markedCher, markedChrx}
 use Rattle.rules.specs.Definitions.Reception.{takesStart, underWay}
 use Rattle.every_run.specs.Valid.{high, low, owes, Valid}
 use Rattle.rules.specs.Definitions.Service.{receives}
@@ -35,12 +35,13 @@ use Rattle.rules.specs.declared.Event.the-variants.{Reset, Write, Read, Slot}
 
 -- ---- what a valid frame does to the memory map
 
+-- "status, data and these two bytes", the check: "when M_L is at least n + 3", else "nothing extra"; "The count in the status byte still says n" (02, Req 04)
+unfoldable pub storedBytes : Winner → Frame → List ℕ
+storedBytes w f = statusByte (low f) (length (f .bytes)) ∷ (f .bytes ++ pick (leb (length (f .bytes) + 3) (w .length)) (checkBytes f) [])
+
 -- "writes the status byte .. at 0x80 + pointer and the n data bytes after it", the identifier to the tag, CHRx
 unfoldable pub storedFrame : List ℕ → Winner → Frame → List ℕ
-storedFrame m w f =
-    markedChrx
-    (retagged (laidFrom m (w .pointer) 0 (statusByte (low f) (length (f .bytes)) ∷ f .bytes)) (w .channel) (high f) (low f))
-    (w .channel)
+storedFrame m w f = markedChrx (retagged (laidFrom m (w .pointer) 0 (storedBytes w f)) (w .channel) (high f) (low f)) (w .channel)
 
 -- nothing where no channel takes it; "It fits when n + 1 is at most M_L", else CHER
 unfoldable pub received : List ℕ → Winner → Frame → List ℕ

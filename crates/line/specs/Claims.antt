@@ -24,7 +24,7 @@ pub record Layout : Type 0 where
 abbrev pub checkAndZero : ℕ → ℕ → List ℕ → ℕ
 checkAndZero identifier command bytes = check (covered (record { identifier = identifier; command = command; bytes = bytes; acknowledge = true })) * 2
 
--- closed: the check as other sources have it
+-- closed: the check where it is known without a model
 pub record Checked : Type 0 where
   -- of frames captured on real buses
   pub captured-4d4 : checkAndZero 0x4D4 14 (0x82 ∷ 0x0C ∷ 0x01 ∷ 0x00 ∷ 0x11 ∷ 0x00 ∷ 0x3F ∷ 0x3F ∷ 0x3F ∷ 0x3F ∷ 0x82 ∷ []) ≡ 0x7BA4

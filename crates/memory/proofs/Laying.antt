@@ -4,7 +4,7 @@ use mathlib.Core.List.{List, [], _∷_, _++_, append-assoc}
 use mathlib.Core.Path.{_≡_, refl, ap, _∙_, sym}
 use native.Mathlib.Nat.{add-zero, sub-zero}
 use native.Mathlib.Omega.{arith}
-use borrow.Author.Tests.{eq-eqb, ne-eqb}
+use borrow.Author.Tests.{eq-eqb, ne-eqb, le-leb, lt-leb}
 use lib.ListN.{length, getD, set, take, drop, replicate, drop-of-length-le, length-drop}
 use lib.Seq.{sets, take-at, take-all}
 use Rattle.line.specs.Bits.{bits}
@@ -12,7 +12,7 @@ use Rattle.line.specs.Check.{check}
 use Rattle.line.specs.Frame.{Frame, byteBits, covered}
 use Rattle.line.proofs.Laws.{next, header-bits}
 use Rattle.rules.specs.Definitions.Channels.{base, bufferOf, twelve}
-use Rattle.rules.specs.Definitions.Mailbox.{mailboxAt, statusByte, laidFrom, stored, mailboxBytes, dataIn, frameWith, asksReply, sentFrame, codedBytes, coded}
+use Rattle.rules.specs.Definitions.Mailbox.{mailboxAt, statusByte, laidFrom, placesFilled, stored, mailboxBytes, dataIn, frameWith, asksReply, sentFrame, codedBytes, coded}
 use Rattle.rules.proofs.Mailbox.{mailbox-length}
 use Rattle.rules.specs.declared.Buffer.{Buffer}
 use Rattle.rules.specs.declared.Coded.{Coded}
@@ -130,10 +130,18 @@ sent-data m c at n r p e d h = h ∙ rw (add-zero at, p, d) (simp (ne-eqb (getD 
 
 -- ---- a frame in the mailbox
 
-pub stored-is : (m bytes : List ℕ) (pointer n at status k : ℕ) (r : List ℕ) → at ≡ mailboxAt pointer 0 → status ≡ statusByte (getD bytes 1 0) n
-    → take k (drop 2 bytes) ≡ take n (drop 2 bytes) → r ≡ laidFrom (set m at status) pointer 1 (take k (drop 2 bytes)) → r ≡ stored m pointer bytes n
+pub filled-spare : (len n : ℕ) → n + 3 ≤ len → n + 2 ≡ placesFilled len n
+unfolding placesFilled
+filled-spare len n h = simp (le-leb (n + 3) len h)
+
+pub filled-tight : (len n : ℕ) → len < n + 3 → n ≡ placesFilled len n
+unfolding placesFilled
+filled-tight len n h = simp (lt-leb (n + 3) len h)
+
+pub stored-is : (m bytes : List ℕ) (pointer len n at status filled k : ℕ) (r : List ℕ) → at ≡ mailboxAt pointer 0 → status ≡ statusByte (getD bytes 1 0) n → filled ≡ placesFilled len n
+    → take k (drop 2 bytes) ≡ take filled (drop 2 bytes) → r ≡ laidFrom (set m at status) pointer 1 (take k (drop 2 bytes)) → r ≡ stored m pointer len bytes n
 unfolding stored laidFrom
-stored-is m bytes pointer n at status k r p q e h = h ∙ rw (p, q, e)
+stored-is m bytes pointer len n at status filled k r p q f e h = h ∙ rw (p, q, e, f)
 
 -- no more than 32 bytes are there
 pub all-taken : (bytes : List ℕ) (n : ℕ) → length bytes ≡ 34 → 32 ≤ n → take 32 (drop 2 bytes) ≡ take n (drop 2 bytes)

@@ -1,4 +1,4 @@
-// The mailbox, and the frame that a channel sends or replies with from it (01, Receiving, Sending; 02, Req 01; 000, Mailbox).
+// The mailbox, and the frame that a channel sends or replies with from it (01, Receiving, Sending; 02, Req 01, Req 04; 000, Mailbox).
 // The map is lent and changed in place. A channel number is taken modulo 14.
 ghost use mathlib.Core.Path.{_≡_};
 ghost use mathlib.Core.List.{_∷_};
@@ -30,7 +30,7 @@ fn status_byte(low: u8, n: u8) -> u8
     low % 8 * 32 + n % 32
 }
 
-// Data bytes, from the place behind the status byte on.
+// Data and check, from the place behind the status byte on.
 fn lay(m: &mut [u8; 256], pointer: u8, bytes: &[u8])
     requires { ⌜ length (now bytes) ≤ frame.longestData + 2 ⌝ }
     ensures { λ _. ⌜ now (m .exit) ≡ rule.laidFrom (now (m .entry)) pointer 1 (now (bytes .entry)) ⌝ }
@@ -43,14 +43,27 @@ fn lay(m: &mut [u8; 256], pointer: u8, bytes: &[u8])
     }
 }
 
-// A frame in the mailbox: the status byte, n data bytes behind it, and no other byte. A frame's bytes hold at most DATA_AND_CHECK behind its command.
-pub fn store(m: &mut [u8; 256], pointer: u8, bytes: [u8; line::CODED_BYTES], n: u8)
-    ensures { λ _. ⌜ now (m .exit) ≡ rule.stored (now (m .entry)) pointer bytes n ⌝ }
+// How many places behind the status byte a frame of n data bytes fills: the check has two where M_L leaves them.
+fn places_filled(length: u8, n: u8) -> usize
+    ensures value { λ r. ⌜ r ≡ rule.placesFilled length n ⌝ }
+    ensures range { λ r. ⌜ r ≤ n + 2 ⌝ }
+{
+    let count = n as usize;
+    if count + 3 <= length as usize {
+        return count + 2;
+    }
+    count
+}
+
+// A frame in the mailbox: the status byte, n data bytes behind it, the check where M_L leaves two places, and no other byte.
+// A frame's bytes are CODED_BYTES: no more than these are laid.
+pub fn store(m: &mut [u8; 256], pointer: u8, length: u8, bytes: [u8; line::CODED_BYTES], n: u8)
+    ensures { λ _. ⌜ now (m .exit) ≡ rule.stored (now (m .entry)) pointer length bytes n ⌝ }
 {
     let first = mailbox_at(pointer, 0);
     m[first] = status_byte(bytes[1], n);
-    if n < line::DATA_AND_CHECK {
-        let end = 2 + n as usize;
+    let end = 2 + places_filled(length, n);
+    if end < line::CODED_BYTES {
         lay(m, pointer, &bytes[2..end]);
         return;
     }

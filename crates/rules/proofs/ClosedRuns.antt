@@ -15,7 +15,7 @@ use Rattle.rules.specs.Definitions.Slots.{drives}
 use Rattle.rules.specs.Definitions.Host.{lineStatusOf, resetAll, interruptLine}
 use Rattle.rules.specs.Definitions.Run.{fresh, step}
 use Rattle.rules.specs.Statements.Claims.{Courses}
-use Rattle.rules.specs.Statements.Runs.{setUp, ones, levels, sent, overdriven, ran, listening, asking, lastAnswer, reads, sees, pin, again, sendingData, failures, overdrivenAt, refuses, readsFrom, writesFrom, framed, heardBy, offered, typesFrom, types, flipped, beyond, largestOf, lower}
+use Rattle.rules.specs.Statements.Runs.{setUp, ones, levels, sent, overdriven, ran, listening, asking, lastAnswer, reads, sees, pin, again, sendingData, failures, overdrivenAt, refuses, readsFrom, writesFrom, framed, heardBy, offered, typesFrom, types, flipped, beyond, largestOf, lower, captured, roomFor}
 use Rattle.rules.specs.declared.Choice.the-variants.{Lowest}
 use Rattle.rules.specs.declared.Mode.the-variants.{Active}
 use Rattle.rules.specs.declared.Event.the-variants.{Reset, Slot, Write, Read}
@@ -280,7 +280,7 @@ pub types-of-repliers : types immediateReply ≡ 0 ∷ 0 ∷ 0 ∷ 0 ∷ 0 ∷ 0
 unfolding immediateReply types typesFrom bit
 types-of-repliers = refl
 
-pub link-high-bits : sees (heardBy (Write 0x1A 0x1D ∷ Write 0x1B 0x00 ∷ Write 0x7A 0xA0 ∷ Write 0x7B 0x1A ∷ []) (slots asking)) (0x09 ∷ 0x1B ∷ 0xA0 ∷ []) ≡ 0x82 ∷ 0x01 ∷ 0x82 ∷ []
+pub link-high-bits : sees (heardBy (Write 0x1A 0x1D ∷ Write 0x1B 0x00 ∷ Write 0x7A 0xA0 ∷ Write 0x7B 0x22 ∷ []) (slots asking)) (0x09 ∷ 0x1B ∷ 0xA0 ∷ 0xA3 ∷ []) ≡ 0x82 ∷ 0x01 ∷ 0x82 ∷ 0x00 ∷ []
 unfolding lastAnswer ran heardBy listening ones levels asking sees reads
 link-high-bits = refl
 
@@ -444,6 +444,26 @@ pub own-not-stored : sees (listening ++ (setUp ++ (ones 12 ++ levels (slots sent
 unfolding sees reads ran lastAnswer listening setUp ones levels sent
 own-not-stored = refl
 
+pub check-kept : sees (heardBy (roomFor 5) (slots captured)) (0x1B ∷ 0xFC ∷ 0xFD ∷ 0xFE ∷ 0xFF ∷ 0x80 ∷ 0x81 ∷ []) ≡ 0x29 ∷ 0x82 ∷ 0x00 ∷ 0xFF ∷ 0x1F ∷ 0xF8 ∷ 0x00 ∷ []
+unfolding lastAnswer ran heardBy listening ones levels sees reads captured roomFor
+check-kept = refl
+
+pub one-place-to-spare : sees (heardBy (roomFor 4) (slots captured)) (0x1B ∷ 0xFC ∷ 0xFD ∷ 0xFE ∷ 0xFF ∷ 0x80 ∷ []) ≡ 0x21 ∷ 0x82 ∷ 0x00 ∷ 0xFF ∷ 0x00 ∷ 0x00 ∷ []
+unfolding lastAnswer ran heardBy listening ones levels sees reads captured roomFor
+one-place-to-spare = refl
+
+pub length-held : sees (listening ++ (roomFor 5 ++ (ones 12 ++ (levels (take 60 (slots captured)) ++ (Write 0x1B 0x18 ∷ levels (drop 60 (slots captured))))))) (0x1B ∷ 0xFC ∷ 0xFF ∷ 0x80 ∷ []) ≡ 0x19 ∷ 0x82 ∷ 0x1F ∷ 0xF8 ∷ []
+unfolding lastAnswer ran listening ones levels sees reads captured roomFor
+length-held = refl
+
+pub request-check-kept : sees (heardBy (Write 0x19 0x3A ∷ Write 0x1B 0x1A ∷ []) (slots (framed 11 []))) (0x1B ∷ 0xFF ∷ 0x80 ∷ 0x81 ∷ 0x82 ∷ []) ≡ 0x1B ∷ 0x60 ∷ 0x26 ∷ 0x34 ∷ 0x00 ∷ []
+unfolding lastAnswer ran heardBy listening ones levels sees reads framed
+request-check-kept = refl
+
+pub overflow-leaves-none : drop 0x80 (ran fresh (heardBy (roomFor 2) (slots captured)) .memory) ≡ replicate 128 0
+unfolding lastAnswer ran heardBy listening ones levels captured roomFor
+overflow-leaves-none = refl
+
 pub courses : Courses
 courses =
     record {
@@ -550,4 +570,9 @@ courses =
       reply-ends = reply-ends;
       reply-not-stored = reply-not-stored;
       own-not-stored = own-not-stored;
+      check-kept = check-kept;
+      one-place-to-spare = one-place-to-spare;
+      length-held = length-held;
+      request-check-kept = request-check-kept;
+      overflow-leaves-none = overflow-leaves-none;
     }

@@ -4,7 +4,7 @@
 use Prim.Native.Nat.{ℕ, zero, suc, _+_, _-_, _%_, _≤_, _<_}
 use mathlib.Core.Bool.{Bool, true, false, not, false≢true}
 use mathlib.Core.List.{List}
-use mathlib.Core.Path.{_≡_, refl, ap, sym}
+use mathlib.Core.Path.{_≡_, refl, sym}
 use native.Mathlib.Omega.{arith}
 use borrow.Author.Tests.{leb-true, ne-eqb, eqb-true}
 use lib.Dec.{eqb, leb}
@@ -15,7 +15,7 @@ use Rattle.line.proofs.Laws.{picked}
 use Rattle.rules.specs.Definitions.Registers.{both, transmitControl, readOnly, resetValues, retrySetting}
 use Rattle.rules.specs.Definitions.Longest.{capacity}
 use Rattle.rules.specs.Definitions.Channels.{base, bufferOf, twelve, withCher, withChtx, withChrx, channels, channelAt, lengthOf, noBuffer, ownBuffer, linkedBuffer, nobody, winnerOf, lowest, lowestListening, won, winnerFor, takes, asksToSend, sendable, ready, lowestReady, statusBits, immediateReply, settlesReply, ifReplies, replierFor, cher, requestDetection, matches}
-use Rattle.rules.specs.Definitions.Mailbox.{mailboxAt, statusByte, laidFrom, stored, mailboxBytes, dataIn, frameWith, asksReply, sentFrame, replyFrame, retagged, rowsWritten, markedCher, markedChtx, markedChrx, resetMemory}
+use Rattle.rules.specs.Definitions.Mailbox.{mailboxAt, statusByte, laidFrom, placesFilled, stored, mailboxBytes, dataIn, frameWith, asksReply, sentFrame, replyFrame, retagged, rowsWritten, markedCher, markedChtx, markedChrx, resetMemory}
 use Rattle.rules.proofs.Logic.{both-true}
 use Rattle.rules.proofs.Mailbox.{mailbox-length}
 use Rattle.rules.proofs.Matching.Lowest.{found}
@@ -139,10 +139,10 @@ unfolding laidFrom
 laid-below b none p k = b
 laid-below b (one {x = x} h bs) p k = laid-below (set-below b (mailboxAt p k) x h) bs p (k + 1)
 
-pub stored-below : {m bs : List ℕ} → Below 256 m → Below 256 bs → (p n : ℕ) → Below 256 (stored m p bs n)
+pub stored-below : {m bs : List ℕ} → Below 256 m → Below 256 bs → (p len n : ℕ) → Below 256 (stored m p len bs n)
 unfolding stored statusByte
-stored-below {bs = bs} b g p n =
-    laid-below b (one {x = statusByte (getD bs 1 0) n} (omega arith) (take-below (drop-below g 2) n)) p 0
+stored-below {bs = bs} b g p len n =
+    laid-below b (one {x = statusByte (getD bs 1 0) n} (omega arith) (take-below (drop-below g 2) (placesFilled len n))) p 0
 
 pub retagged-below : {m : List ℕ} → Below 256 m → (c high low : ℕ) → high < 256 → low < 256 → Below 256 (retagged m c high low)
 unfolding retagged

@@ -1,7 +1,7 @@
 -- What a sample does to the frame under way, the line, the registers and the memory map of a fine state.
 --   Received == the frame under way between events: judged-received        line-small == the line
 --   Heard == what a sample may be for the line: frame-heard, quiet-heard        heard-report, delivered-report, delivered-below == registers and memory map
-use Prim.Native.Nat.{ℕ, _+_, _*_, _/_, _%_, _≤_, _<_}
+use Prim.Native.Nat.{ℕ, _+_, _/_, _%_, _≤_, _<_}
 use mathlib.Core.List.{List}
 use native.Mathlib.Omega.{arith}
 use borrow.Author.Tests.{ltb-true, eqb-true}
@@ -208,7 +208,7 @@ unfolding memoryDelivered memoryStored
 delivered-below Nothing b r f = b
 delivered-below Stored b r f =
     chrx-below
-    (retagged-below (stored-below b (f .bytes) (r .winner .pointer) (dataCount (r .nibbles))) (r .winner .channel) _ _ (at-below (f .bytes) 0) (at-below (f .bytes) 1))
+    (retagged-below (stored-below b (f .bytes) (r .winner .pointer) (r .winner .length) (dataCount (r .nibbles))) (r .winner .channel) _ _ (at-below (f .bytes) 0) (at-below (f .bytes) 1))
     (r .winner .channel)
 delivered-below Overflowed b r f = cher-below b (r .winner .channel)
 delivered-below Spoiled b r f = cher-below b (r .winner .channel)

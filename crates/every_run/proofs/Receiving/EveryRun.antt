@@ -6,18 +6,19 @@ use mathlib.Core.Path.{_≡_, refl, ap, _∙_, sym, subst}
 use native.Mathlib.Omega.{arith}
 use borrow.Author.Tests.{eq-eqb, ltb-true, ltb-false}
 use lib.Dec.{eqb, ltb, leb}
-use lib.ListN.{length, getD, length-append}
+use lib.ListN.{length, getD, take, drop, length-append}
 use lib.Seq.{getD-set-other}
 use Rattle.line.specs.Bits.{pick, bits}
 use Rattle.line.specs.LineCode.{lineCode}
 use Rattle.line.specs.Frame.{Frame, Fits, slots, size}
 use Rattle.line.proofs.Laws.{bits-length, code-length, slots-length, picked}
 use Rattle.rules.specs.Definitions.Channels.{base}
-use Rattle.rules.specs.Definitions.Mailbox.{stored, markedCher}
+use Rattle.rules.specs.Definitions.Mailbox.{placesFilled, stored, checkBytes, markedCher}
 use Rattle.rules.specs.Definitions.Reception.{atPlace, isUnderWay, takesStart, underWay, commandEnded, begun, moved, entered, bitTaken, bitsLaid, dataEnded, nibbleTaken, followStart, followBody, followIn, followed, winnerTaken, followAcknowledge, followEnd}
 use Rattle.rules.specs.Definitions.Hearing.{receptionAfter, hearFrame, hearQuiet, acknowledges, acknowledgeLevel, receiverIn, receiverLevel, fits}
 use Rattle.every_run.specs.Valid.{high, low, owes, Valid}
 use Rattle.every_run.proofs.Receiving.Invariant.{InBody, InAcknowledge, InvariantIn, Invariant, Whole}
+use Rattle.every_run.proofs.Receiving.Held.{places-hold}
 use Rattle.every_run.proofs.Receiving.InvariantFrames.{start-long, acknowledge-long, end-long, closing, closing-length, body-opens, acknowledge-same, end-same}
 use Rattle.every_run.proofs.Receiving.InvariantLaws.{invariant-silent, invariant-header, invariant-good, invariant-last, invariant-fault, invariant-acknowledges}
 use Rattle.rules.specs.Definitions.Delivery.{deliveryTo, delivered, deliveryOf, memoryStored, memoryDelivered, reportHeard, reportDelivered, reportStored, receiveError}
@@ -37,7 +38,7 @@ use Rattle.every_run.proofs.Sending.Follow.{follows-activity, follows-r
 use Rattle.every_run.proofs.Ranges.Limits.{Fine}
 use Rattle.every_run.proofs.Ranges.Reach.{fine-fresh, fine-next}
 use Rattle.every_run.proofs.Sending.Demand3.{Joined, joined-next, joined-fresh}
-use Rattle.every_run.specs.Receiving.{Log, noLog, storedFrame, received, errorAfter, logNext, taker, hears, Taken, Delivers, role, Heeds, DeliversIn, Owing, Acknowledges, ReceivingOver, untakenCode}
+use Rattle.every_run.specs.Receiving.{Log, noLog, storedBytes, storedFrame, received, errorAfter, logNext, taker, hears, Taken, Delivers, role, Heeds, DeliversIn, Owing, Acknowledges, ReceivingOver, untakenCode}
 use Rattle.every_run.specs.Interrupts.{ownFrame}
 use Rattle.every_run.proofs.Roles as roles
 use Rattle.every_run.proofs.Roles.{RoleIs, sends, asks, rests, role-is}
@@ -116,14 +117,19 @@ receiver-memory m k h q g = rw (q, g) (go (fulfils (deliveryOf h (k .reception))
     go true = unfold memoryEnded in refl
     go false = unfold memoryEnded in refl
 
--- what a good frame does to it
+-- what a good frame fills of the mailbox
+filled-places : {longest : ℕ} (r : Reception) {s : List ℕ} (w : Whole longest r s)
+    → take (placesFilled (r .winner .length) (length (w .frame .bytes))) (drop 2 (r .bytes)) ≡ w .frame .bytes ++ pick (leb (length (w .frame .bytes) + 3) (r .winner .length)) (checkBytes (w .frame)) []
+filled-places r w = rw (w .coded-is) (places-hold (w .frame) (r .winner .length))
+
+-- what a good frame does to the memory map
 good-memory : {longest : ℕ} (m : List ℕ) (r : Reception) {s : List ℕ} (w : Whole longest r s) → memoryDelivered (deliveryOf hearing.Good r) m r ≡ received m (r .winner) (w .frame)
 unfolding deliveryOf deliveryTo delivered fits received
 good-memory m r w = rw (w .count-is) (go (r .winner .matched) (leb (length (w .frame .bytes) + 1) (r .winner .length)))
   where
     go : (a b : Bool) → memoryDelivered (pick a (pick b effect.Stored effect.Overflowed) effect.Nothing) m r
         ≡ pick a (pick b (storedFrame m (r .winner) (w .frame)) (markedCher m (r .winner .channel))) m
-    go true true = unfold memoryDelivered memoryStored stored storedFrame in rw (w .high-is, w .low-is, w .bytes-are, w .count-is)
+    go true true = unfold memoryDelivered memoryStored stored storedFrame storedBytes in rw (w .high-is, w .low-is, w .count-is, filled-places r w)
     go true false = unfold memoryDelivered in refl
     go false b = unfold memoryDelivered in refl
 

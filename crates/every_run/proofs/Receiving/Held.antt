@@ -1,17 +1,18 @@
 -- The frame that the bytes hold, and the bits that carry a frame.
 use Prim.Native.Nat.{ℕ, suc, _+_, _-_, _*_, _/_, _%_, _^_, _≤_, _<_}
-use mathlib.Core.Bool.{Bool}
-use mathlib.Core.List.{List, [], _∷_, _++_, append-assoc}
+use mathlib.Core.Bool.{Bool, true, false}
+use mathlib.Core.List.{List, [], _∷_, _++_, append-assoc, append-nil}
 use mathlib.Core.Path.{_≡_, refl, ap, _∙_, sym}
 use native.Mathlib.Omega.{arith}
+use lib.Dec.{leb}
 use lib.ListN.{length, getD, take, drop, replicate, length-append, length-drop, length-replicate, take-append-drop}
 use lib.Seq.{take-at, drop-at, take-append-add, length-take-le, drop-cons}
-use Rattle.line.specs.Bits.{bits, bitsValue, Below, none, one}
+use Rattle.line.specs.Bits.{pick, bits, bitsValue, Below, none, one}
 use Rattle.line.specs.Check.{check}
 use Rattle.line.specs.Frame.{Frame, Fits, byteBits, covered, carried}
 use Rattle.line.proofs.Laws.{bits-length, bits-split, bits-mod, value-bits, check-below, byteBits-append, covered-length, carried-length, header-bits, byteBits-length}
 use Rattle.rules.specs.Definitions.Longest.{capacity}
-use Rattle.rules.specs.Definitions.Mailbox.{codedBytes}
+use Rattle.rules.specs.Definitions.Mailbox.{placesFilled, checkBytes, codedBytes}
 use Rattle.rules.specs.Definitions.Reception.{dataCount}
 use Rattle.rules.specs.Definitions.Hearing.{checkReceived}
 use Rattle.every_run.proofs.Ranges.Bytes.{at-below, take-below, drop-below, zeros-below}
@@ -221,3 +222,18 @@ module _ (f : Frame) (fits : Fits capacity f) where
       let i : f .identifier / 16 * 16 + (f .identifier % 16 * 16 + f .command) / 16 ≡ f .identifier = omega arith in
       let k : (f .identifier % 16 * 16 + f .command) % 16 ≡ f .command = omega arith in
       rw (e, d, i, k, take-at (f .bytes) behind n refl)
+
+-- data and check as they stand in a frame's bytes
+pub places-hold : (f : Frame) (len : ℕ) → take (placesFilled len (length (f .bytes))) (drop 2 (codedBytes f)) ≡ f .bytes ++ pick (leb (length (f .bytes) + 3) len) (checkBytes f) []
+unfolding placesFilled codedBytes
+places-hold f len = go (leb (length (f .bytes) + 3) len)
+  where
+    n : ℕ
+    n = length (f .bytes)
+
+    z : List ℕ
+    z = replicate (capacity - n) 0
+
+    go : (b : Bool) → take (pick b (n + 2) n) (f .bytes ++ (checkBytes f ++ z)) ≡ f .bytes ++ pick b (checkBytes f) []
+    go true = ap (λ (l : List ℕ). take (n + 2) l) (sym (append-assoc (f .bytes) (checkBytes f) z)) ∙ take-at (f .bytes ++ checkBytes f) z (n + 2) (length-append (f .bytes) (checkBytes f))
+    go false = take-at (f .bytes) (checkBytes f ++ z) n refl ∙ sym (append-nil (f .bytes))

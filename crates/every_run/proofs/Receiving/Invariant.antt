@@ -89,7 +89,6 @@ pub record Whole (longest : ℕ) (r : Reception) (s : List ℕ) : Type 0 where
   pub valid : Valid (r .winner) frame
   pub high-is : getD (r .bytes) 0 0 ≡ high frame
   pub low-is : getD (r .bytes) 1 0 ≡ low frame
-  pub bytes-are : take (dataCount (r .nibbles)) (drop 2 (r .bytes)) ≡ frame .bytes
   pub count-is : dataCount (r .nibbles) ≡ length (frame .bytes)
   pub coded-is : r .bytes ≡ codedBytes frame
 

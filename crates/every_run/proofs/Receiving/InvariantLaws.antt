@@ -202,7 +202,6 @@ module _ (longest : ℕ) (r : Reception) (s : List ℕ) where
         valid = t .valid;
         high-is = held-high r (c .long) (c .below) (c .most) (c .count) (t .acknowledged);
         low-is = held-low r (c .long) (c .below) (c .most) (c .count) (t .acknowledged);
-        bytes-are = unfold frameHeld in refl;
         count-is = held-length r (c .long) (c .below) (c .most) (c .count) (t .acknowledged);
         coded-is = unfold frameHeld codedBytes covered in c .coded;
       }

@@ -19,7 +19,7 @@ unfolding bits
 last-bit x h = let e : x / 1 % 2 ≡ 0 = omega arith in rw e
 
 -- the check's fifteen bits and a zero bit as two bytes
-check-bytes : (c : ℕ) → bits 8 (c / 128) ++ bits 8 (c % 128 * 2) ≡ bits 15 c ++ (0 ∷ [])
+pub check-bytes : (c : ℕ) → bits 8 (c / 128) ++ bits 8 (c % 128 * 2) ≡ bits 15 c ++ (0 ∷ [])
 check-bytes c =
     let h : c % 128 * 2 / 2 ≡ c % 128 = omega arith in
     let low : bits 8 (c % 128 * 2) ≡ bits 7 c ++ (0 ∷ []) = bits-split 7 1 (c % 128 * 2) ∙ rw (h, bits-mod 7 c, last-bit (c % 128 * 2) (omega arith)) in

@@ -15,19 +15,23 @@ store-spec =
     (λ c. search needs)
     (λ c κs. tt)
     (λ c. search needs)
+    (λ c κs. tt)
     (λ c. search needs)
     (λ c. search needs)
     (λ c. search needs)
     (λ c. search needs)
     (λ c κs. search needs)
-    (λ c. let x = c .before .before .before .before .before .before .before .args in
-    let e : 2 + x .n - 2 ≡ x .n = omega arith in
-    stored-is _ (x .t3) (x .pointer) (x .n) _ _ (2 + x .n - 2) _ (c .before .before .before .before .before .before .mailbox-at .ensures .0) (c .before .before .before .before .before .status-byte .ensures) (rw e) (c .lay .ensures))
+    (λ c. let s = c .before .before .before .before .before in
+    let x = s .before .before .before .args in
+    let f = s .places-filled .result in
+    let e : 2 + f - 2 ≡ f = omega arith in
+    stored-is _ (x .t4) (x .pointer) (x .length) (x .n) _ _ f (2 + f - 2) _ (s .before .before .mailbox-at .ensures .0) (s .before .status-byte .ensures) (s .places-filled .ensures .0) (rw e) (c .lay .ensures))
     (λ c. search needs)
     (λ c. search needs)
     (λ c. search needs)
     (λ c κs. search needs)
-    (λ c. let x = c .before .before .before .before .before .before .before .args in
-    stored-is _ (x .t3) (x .pointer) (x .n) _ _ 32 _ (c .before .before .before .before .before .before .mailbox-at .ensures .0) (c .before .before .before .before .before .status-byte .ensures)
-    (all-taken (x .t3) (x .n) (good-length (eInt w8) 34 (x .t3) _ (c .before .before .before .before .before .before .before .good .1 .1 .0)) (c .before .before .before .before .if1 .left))
+    (λ c. let s = c .before .before .before .before .before in
+    let x = s .before .before .before .args in
+    stored-is _ (x .t4) (x .pointer) (x .length) (x .n) _ _ (s .places-filled .result) 32 _ (s .before .before .mailbox-at .ensures .0) (s .before .status-byte .ensures) (s .places-filled .ensures .0)
+    (all-taken (x .t4) (s .places-filled .result) (good-length (eInt w8) 34 (x .t4) _ (s .before .before .before .good .1 .1 .1 .0)) (omega (arith, c .before .before .before .before .if1 .left)))
     (c .lay2 .ensures)))

@@ -1,4 +1,4 @@
--- What another module's frame does to the channel that takes it, and to the registers (01, Receiving).
+-- What another module's frame does to the channel that takes it, and to the registers (01, Receiving; 02, Req 04).
 --   deliveryOf == what it does        memoryDelivered, reportHeard, reportDelivered == memory map and registers after it
 use Prim.Native.Nat.{ℕ}
 use mathlib.Core.Bool.{Bool, true}
@@ -35,11 +35,11 @@ deliveryOf h r = pick (r .winner .matched) (deliveryTo h r) Nothing
 
 -- ---- the memory map
 
--- status byte and data to the mailbox, the identifier to the tag, CHRx
+-- status byte, data and, where M_L leaves two places, the check to the mailbox, the identifier to the tag, CHRx
 unfoldable pub memoryStored : List ℕ → Reception → List ℕ
 memoryStored m r =
     markedChrx
-    (retagged (stored m (r .winner .pointer) (r .bytes) (dataCount (r .nibbles))) (r .winner .channel) (getD (r .bytes) 0 0) (getD (r .bytes) 1 0))
+    (retagged (stored m (r .winner .pointer) (r .winner .length) (r .bytes) (dataCount (r .nibbles))) (r .winner .channel) (getD (r .bytes) 0 0) (getD (r .bytes) 1 0))
     (r .winner .channel)
 
 unfoldable pub memoryDelivered : Delivery → List ℕ → Reception → List ℕ

@@ -1,10 +1,10 @@
--- The mailbox and what the controller writes to the memory map (01, Receiving, Sending; 02, Req 01; 000, Mailbox).
+-- The mailbox and what the controller writes to the memory map (01, Receiving, Sending; 02, Req 01, Req 04; 000, Mailbox).
 --   mailboxAt == an address in the mailbox        stored == a frame in the mailbox
 --   sentFrame, replyFrame, coded == the frame that a channel sends, or replies with, and its bytes        retagged, marked.. == what is written to a channel
 use Prim.Native.Nat.{ℕ, zero, suc, _+_, _-_, _*_, _/_, _%_}
 use mathlib.Core.Bool.{Bool, false}
 use mathlib.Core.List.{List, [], _∷_, _++_}
-use lib.Dec.{eqb}
+use lib.Dec.{eqb, leb}
 use lib.ListN.{length, getD, set, take, drop, replicate}
 use Rattle.line.specs.Bits.{pick}
 use Rattle.line.specs.Check.{check}
@@ -27,9 +27,14 @@ unfoldable pub laidFrom : List ℕ → ℕ → ℕ → List ℕ → List ℕ
 laidFrom m pointer k [] = m
 laidFrom m pointer k (b ∷ bs) = laidFrom (set m (mailboxAt pointer k) b) pointer (k + 1) bs
 
--- "writes the status byte .. at 0x80 + pointer and the n data bytes after it, and no other mailbox byte"
-unfoldable pub stored : List ℕ → ℕ → List ℕ → ℕ → List ℕ
-stored m pointer bytes n = laidFrom m pointer 0 (statusByte (getD bytes 1 0) n ∷ take n (drop 2 bytes))
+-- the places behind the status byte that a frame of n data bytes fills: the check has two "when M_L is at least n + 3", else "nothing extra is written" (02, Req 04)
+unfoldable pub placesFilled : ℕ → ℕ → ℕ
+placesFilled length n = pick (leb (n + 3) length) (n + 2) n
+
+-- "writes the status byte .. at 0x80 + pointer and the n data bytes after it", the check behind them, "and no other mailbox byte". The bytes received hold the check behind
+-- the data, "the 15 check bits followed by a zero bit" (`dataEnded` in Reception); it is written "considering these bytes as normal DATA" (000 and 003, Message Data, note 1)
+unfoldable pub stored : List ℕ → ℕ → ℕ → List ℕ → ℕ → List ℕ
+stored m pointer length bytes n = laidFrom m pointer 0 (statusByte (getD bytes 1 0) n ∷ take (placesFilled length n) (drop 2 bytes))
 
 -- n bytes of the mailbox from place k behind a pointer on
 unfoldable pub mailboxBytes : List ℕ → ℕ → ℕ → ℕ → List ℕ
@@ -63,11 +68,14 @@ sentFrame m c =
 unfoldable pub replyFrame : List ℕ → ℕ → ℕ → ℕ → Frame
 replyFrame m c high low = frameWith m c high low (dataIn (bufferOf m c .length))
 
--- identifier, command, data and check of a frame as bytes, a zero bit behind the check, and zeros up to the longest frame
+-- a frame's check in two bytes: "the 15 check bits followed by a zero bit" (02, Req 04)
+abbrev pub checkBytes : Frame → List ℕ
+checkBytes f = (check (covered f) / 128) ∷ (check (covered f) % 128 * 2) ∷ []
+
+-- identifier, command, data and check of a frame as bytes, and zeros up to the longest frame
 unfoldable pub codedBytes : Frame → List ℕ
 codedBytes f =
-    (f .identifier / 16) ∷ (f .identifier % 16 * 16 + f .command)
-    ∷ (f .bytes ++ ((check (covered f) / 128) ∷ (check (covered f) % 128 * 2) ∷ replicate (capacity - length (f .bytes)) 0))
+    (f .identifier / 16) ∷ (f .identifier % 16 * 16 + f .command) ∷ (f .bytes ++ (checkBytes f ++ replicate (capacity - length (f .bytes)) 0))
 
 unfoldable pub coded : Frame → Coded
 coded f = record { n = length (f .bytes); bytes = codedBytes f }

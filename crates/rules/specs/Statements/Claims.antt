@@ -14,7 +14,7 @@ use Rattle.rules.specs.Definitions.State.{ranges}
 use Rattle.rules.specs.Definitions.Slots.{drives}
 use Rattle.rules.specs.Definitions.Host.{resetAll, byteRead, lineStatusOf, interruptLine}
 use Rattle.rules.specs.Definitions.Run.{fresh, step}
-use Rattle.rules.specs.Statements.Runs.{setUp, ones, levels, sent, overdriven, ran, listening, asking, lastAnswer, sees, pin, again, sendingData, failures, overdrivenAt, refuses, readsFrom, writesFrom, framed, heardBy, offered, types, flipped, beyond, largestOf, lower}
+use Rattle.rules.specs.Statements.Runs.{setUp, ones, levels, sent, overdriven, ran, listening, asking, lastAnswer, sees, pin, again, sendingData, failures, overdrivenAt, refuses, readsFrom, writesFrom, framed, heardBy, offered, types, flipped, beyond, largestOf, lower, captured, roomFor}
 use Rattle.rules.specs.declared.Choice.the-variants.{Lowest}
 use Rattle.rules.specs.declared.Mode.the-variants.{Active}
 use Rattle.rules.specs.declared.Controller.{Controller}
@@ -140,8 +140,8 @@ pub record Courses : Type 0 where
   pub types-of-requests : types requestDetection ≡ 0 ∷ 0 ∷ 0 ∷ 0 ∷ 0 ∷ 0 ∷ 0 ∷ 0 ∷ 0 ∷ 0 ∷ 1 ∷ 0 ∷ 0 ∷ 0 ∷ 0 ∷ 0 ∷ []
   pub types-of-replies : types awaitsReply ≡ 0 ∷ 0 ∷ 0 ∷ 0 ∷ 0 ∷ 0 ∷ 0 ∷ 0 ∷ 0 ∷ 0 ∷ 0 ∷ 0 ∷ 1 ∷ 0 ∷ 1 ∷ 0 ∷ []
   pub types-of-repliers : types immediateReply ≡ 0 ∷ 0 ∷ 0 ∷ 0 ∷ 0 ∷ 0 ∷ 0 ∷ 0 ∷ 1 ∷ 0 ∷ 0 ∷ 0 ∷ 0 ∷ 0 ∷ 0 ∷ 0 ∷ []
-  -- a link is four bits of the pointer; DRAK is that of channel 1; a link to a link takes nothing
-  pub link-high-bits : sees (heardBy (Write 0x1A 0x1D ∷ Write 0x1B 0x00 ∷ Write 0x7A 0xA0 ∷ Write 0x7B 0x1A ∷ []) (slots asking)) (0x09 ∷ 0x1B ∷ 0xA0 ∷ []) ≡ 0x82 ∷ 0x01 ∷ 0x82 ∷ []
+  -- a link is four bits of the pointer, and M_L is that of the channel it names; DRAK is that of channel 1; a link to a link takes nothing
+  pub link-high-bits : sees (heardBy (Write 0x1A 0x1D ∷ Write 0x1B 0x00 ∷ Write 0x7A 0xA0 ∷ Write 0x7B 0x22 ∷ []) (slots asking)) (0x09 ∷ 0x1B ∷ 0xA0 ∷ 0xA3 ∷ []) ≡ 0x82 ∷ 0x01 ∷ 0x82 ∷ 0x00 ∷ []
   pub linked-drak : pin (heardBy (Write 0x1A 0x1D ∷ Write 0x1B 0x00 ∷ Write 0x7A 0xA0 ∷ Write 0x7B 0x1A ∷ []) (take 71 (slots asking))) ≡ 0
   pub link-to-link : sees (heardBy (Write 0x1A 0x0D ∷ Write 0x1B 0x00 ∷ Write 0x7A 0x0C ∷ Write 0x7B 0x02 ∷ Write 0x72 0x20 ∷ Write 0x73 0x1A ∷ []) (slots asking)) (0x09 ∷ 0x1B ∷ []) ≡ 0x80 ∷ 0x00 ∷ []
   -- a dominant first acknowledge slot is judged in the second
@@ -200,3 +200,13 @@ pub record Courses : Type 0 where
   pub reply-not-stored : sees (heardBy (Write 0x19 0x3A ∷ Write 0x80 0xA5 ∷ Write 0x81 0x3C ∷ Write 0x20 0xF2 ∷ Write 0x21 0x3B ∷ Write 0x22 0x10 ∷ Write 0x23 0x1A ∷ Write 0x26 0xFF ∷ Write 0x27 0xF0 ∷ []) (slots (framed 10 (0xA5 ∷ 0x3C ∷ [])))) (0x09 ∷ 0x1B ∷ 0x23 ∷ 0x90 ∷ 0x91 ∷ []) ≡ 0x88 ∷ 0x1B ∷ 0x1A ∷ 0x00 ∷ 0x00 ∷ []
   -- a frame that the model itself sends is stored by no channel that listens
   pub own-not-stored : sees (listening ++ (setUp ++ (ones 12 ++ levels (slots sent)))) (0x09 ∷ 0x13 ∷ 0x1B ∷ 0xFF ∷ []) ≡ 0x88 ∷ 0x0A ∷ 0x18 ∷ 0x00 ∷ []
+  -- 02, Req 04. The check behind the data: with M_L n + 3 across the end of the mailbox, high byte first, a zero bit behind it; the count says n; nothing behind it
+  pub check-kept : sees (heardBy (roomFor 5) (slots captured)) (0x1B ∷ 0xFC ∷ 0xFD ∷ 0xFE ∷ 0xFF ∷ 0x80 ∷ 0x81 ∷ []) ≡ 0x29 ∷ 0x82 ∷ 0x00 ∷ 0xFF ∷ 0x1F ∷ 0xF8 ∷ 0x00 ∷ []
+  -- with M_L n + 2 nothing extra
+  pub one-place-to-spare : sees (heardBy (roomFor 4) (slots captured)) (0x1B ∷ 0xFC ∷ 0xFD ∷ 0xFE ∷ 0xFF ∷ 0x80 ∷ []) ≡ 0x21 ∷ 0x82 ∷ 0x00 ∷ 0xFF ∷ 0x00 ∷ 0x00 ∷ []
+  -- the M_L of the last command slot decides, whatever the host writes later
+  pub length-held : sees (listening ++ (roomFor 5 ++ (ones 12 ++ (levels (take 60 (slots captured)) ++ (Write 0x1B 0x18 ∷ levels (drop 60 (slots captured))))))) (0x1B ∷ 0xFC ∷ 0xFF ∷ 0x80 ∷ []) ≡ 0x19 ∷ 0x82 ∷ 0x1F ∷ 0xF8 ∷ []
+  -- a reply request leaves its check too
+  pub request-check-kept : sees (heardBy (Write 0x19 0x3A ∷ Write 0x1B 0x1A ∷ []) (slots (framed 11 []))) (0x1B ∷ 0xFF ∷ 0x80 ∷ 0x81 ∷ 0x82 ∷ []) ≡ 0x1B ∷ 0x60 ∷ 0x26 ∷ 0x34 ∷ 0x00 ∷ []
+  -- no byte of the mailbox where the frame does not fit
+  pub overflow-leaves-none : drop 0x80 (ran fresh (heardBy (roomFor 2) (slots captured)) .memory) ≡ replicate 128 0
