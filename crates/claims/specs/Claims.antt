@@ -158,7 +158,7 @@ pub record Matching : Type 0 where
   pub nobody : (m : List ℕ) (high low : ℕ) → winnerFor m high low .matched ≡ false → (k : ℕ) → k < 14 → takes m k high low ≡ false
   -- "The winner, its own DRAK, its pointer and length", by the bytes of the map
   pub held : (m : List ℕ) (high low : ℕ) → winnerFor m high low .matched ≡ true → Held m (winnerFor m high low)
-  -- "a link to itself, to another link or above 13 makes the channel match nothing": where it names a channel that has an M_L, and only there, the channel can match
+  -- "a link to itself, to another link or above 13 makes the channel match nothing": it can match exactly where the channel whose length it uses is at most 13 and has an M_L
   pub links : (m : List ℕ) (c : ℕ) → c < 14 → (bufferOf m c .legal ≡ true) ↔ ((bufferChannel m c < 14) × (1 ≤ getD m (base (bufferChannel m c) + 3) 0 / 8))
 
 -- `received m w f` is what frame f does to the memory map m where w takes it
