@@ -1,20 +1,23 @@
 """Makes bench sessions, event by event. docs/SESSION.md has the file format. Importing it writes nothing.
 
-    from bench_session import Session
+    from bench_session import Session, RXD0, RXD2
     s = Session()
     s.reset()                                             # pin reset
     s.write(0x03, 0x10)                                   # host write: address, value
     s.read(0x09, 0x2B)                                    # host reads: addresses
     s.slot(7)                                             # a slot: RxD0 + 2 RxD1 + 4 RxD2
     s.line([1] * 12)                                      # slots by the level on RxD0; RxD1 and RxD2 are recessive
+    s.line([0, 1], inputs=RXD0 + RXD2)                    # the same on other inputs; an input that is not named is recessive
     s.frame(0x524, [0x01, 0x40])                          # the slots of a frame that asks for an acknowledge and gets it
     s.frame(0x524, [], command=0b1011, acknowledge=False)    # any command: EXT RAK R/W RTR
+    s.frame(0x524, [0x01, 0x40], inputs=RXD2)             # a frame on other inputs
     s.mark(9)                                             # a mark, no effect
     s.raw(b"\\x02\\x83\\x00")                                # the bytes of one event as they are, right or wrong
     s.bytes()                                             # the whole session
 """
 START = [0, 0, 0, 0, 1, 1, 1, 1, 0, 1]
 RESET, WRITE, READ, SLOT, MARK = range(5)
+RXD0, RXD1, RXD2 = 1, 2, 4
 
 
 def number(n):
@@ -78,12 +81,12 @@ class Session:
     def slot(self, levels):
         self.raw(number(SLOT) + number(levels))
 
-    def line(self, levels):
+    def line(self, levels, inputs=RXD0):
         for level in levels:
-            self.slot(6 + level)
+            self.slot(7 if level else 7 - inputs)
 
-    def frame(self, identifier, data, command=0b1100, acknowledge=True):
-        self.line(slots(identifier, command, data, acknowledge))
+    def frame(self, identifier, data, command=0b1100, acknowledge=True, inputs=RXD0):
+        self.line(slots(identifier, command, data, acknowledge), inputs)
 
     def mark(self, n):
         self.raw(number(MARK) + number(n))

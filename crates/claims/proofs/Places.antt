@@ -23,10 +23,10 @@ use Rattle.rules.specs.Definitions.Mailbox.{mailboxAt, statusByte, laidFrom, st
 use Rattle.every_run.specs.Valid.{high, low}
 use Rattle.rules.specs.Definitions.Delivery.{memoryStored, memoryDelivered}
 use Rattle.rules.specs.Definitions.Service.{memoryEnded, memoryReplied}
-use Rattle.rules.specs.Definitions.Slots.{memoryJudged, judgedSlot, sampledSlot, activeSlot}
+use Rattle.rules.specs.Definitions.Slots.{memoryJudged, judgedSlot, sampledSlot, diagnosedSlot, activeSlot, restingSlot}
 use Rattle.rules.specs.Definitions.Host.{resetAll, resets, sleeps, keptByte, byteWritten, hostWritten}
 use Rattle.rules.specs.Definitions.Run.{fresh, refuse, accept, answered, restedSlot, next, after}
-use Rattle.every_run.proofs.Steps.{Step, refusal, reset, wrote, gave, went, rested, step-of}
+use Rattle.every_run.proofs.Steps.{Step, refusal, reset, wrote, gave, went, rested, step-of, resting-is}
 use Rattle.every_run.specs.Receiving.{storedBytes, storedFrame, received}
 use Rattle.claims.specs.Claims.{bufferChannel, Held}
 use Rattle.rules.specs.declared.Channel.{Channel}
@@ -340,8 +340,11 @@ written-length c a v =
     ∙ picked (λ (x : List ℕ). length x ≡ length (c .memory)) (writeOnly a) (c .memory) (set (c .memory) (a % 256) v) (λ i. refl) (λ i. length-set (c .memory) (a % 256) v)))
 
 slot-length : (c : Controller) (l : ℕ) → length (activeSlot c l .memory) ≡ length (c .memory)
-unfolding activeSlot sampledSlot judgedSlot memoryJudged
+unfolding activeSlot diagnosedSlot sampledSlot judgedSlot memoryJudged
 slot-length c l = replied-length _ _ _ ∙ ended-length _ _ _ ∙ delivered-length _ (c .memory) (c .core .reception)
+
+rest-length : (c : Controller) (l : ℕ) → length (restingSlot c l .memory) ≡ length (c .memory)
+rest-length c l = ap (λ (d : Controller). length (d .memory)) (resting-is c l)
 
 kept-length : (c : Controller) (e : Event) → Step c e → length (next c e .memory) ≡ length (c .memory)
 unfolding next refuse accept answered restedSlot resetAll
@@ -350,7 +353,7 @@ kept-length c e (reset h) = ap (λ (x : Answer). length (x .next .memory)) h ∙
 kept-length c e (wrote h) = ap (λ (x : Answer). length (x .next .memory)) h ∙ written-length c _ _
 kept-length c e (gave v h) = ap (λ (x : Answer). length (x .next .memory)) h
 kept-length c e (went a h) = ap (λ (x : Answer). length (x .next .memory)) h ∙ slot-length c _
-kept-length c e (rested a h) = ap (λ (x : Answer). length (x .next .memory)) h
+kept-length c e (rested a h) = ap (λ (x : Answer). length (x .next .memory)) h ∙ rest-length c _
 
 run-length : (c : Controller) (es : List Event) → length (after c es .memory) ≡ length (c .memory)
 unfolding after

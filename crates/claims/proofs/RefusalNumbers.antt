@@ -11,7 +11,7 @@ use Rattle.rules.specs.Definitions.Registers.{readOnly, writeOnly, reserved, fi
 use Rattle.rules.specs.Definitions.State.{inRange, isActive, isAsleep}
 use Rattle.rules.specs.Definitions.Answers.{number}
 use Rattle.rules.specs.Definitions.Host.{accessRefusals, writeRefusals, readRefusals}
-use Rattle.rules.specs.Definitions.Slots.{activeSlot}
+use Rattle.rules.specs.Definitions.Slots.{activeSlot, restingSlot}
 use Rattle.rules.specs.Definitions.Run.{refuse, accept, unlessRefused, pinReset, hostWrite, hostRead, answered, restedSlot, slot, step}
 use Rattle.rules.specs.declared.Controller.{Controller}
 use Rattle.rules.specs.declared.Answer.{Answer}
@@ -38,26 +38,26 @@ module _ (c : Controller) where
       one true e = refl
       one false e = e
 
-  pub reset-number : step c Reset .refused ≡ pick (inRange (c .core)) 0 6
+  pub reset-number : step c Reset .refused ≡ pick (inRange c) 0 6
   unfolding step pinReset accept due number
-  reset-number = due-number _ _ refl ∙ turned (inRange (c .core)) 6 0
+  reset-number = due-number _ _ refl ∙ turned (inRange c) 6 0
 
   pub write-number : (a v : ℕ) → step c (Write a v) .refused
-      ≡ pick (inRange (c .core)) (pick (isAsleep (c .core .activity .mode)) 7 (pick (ltb 255 a) 1
+      ≡ pick (inRange c) (pick (isAsleep (c .core .activity .mode)) 7 (pick (ltb 255 a) 1
       (pick (ltb 255 v) 2 (pick (readOnly a) 3 (pick (reserved a) 3 (pick (fixedBits a (v % 256)) 0 8)))))) 6
   unfolding step hostWrite accept due number accessRefusals writeRefusals
   write-number a v =
       let last = turned (fixedBits a (v % 256)) 8 0 in
-      due-number _ _ refl ∙ turned (inRange (c .core)) 6 (due (drop 1 (accessRefusals (c .core) a ++ writeRefusals a v)))
-      ∙ ap (λ (x : ℕ). pick (inRange (c .core)) (pick (isAsleep (c .core .activity .mode)) 7 (pick (ltb 255 a) 1 (pick (ltb 255 v) 2 (pick (readOnly a) 3 (pick (reserved a) 3 x))))) 6) last
+      due-number _ _ refl ∙ turned (inRange c) 6 (due (drop 1 (accessRefusals c a ++ writeRefusals a v)))
+      ∙ ap (λ (x : ℕ). pick (inRange c) (pick (isAsleep (c .core .activity .mode)) 7 (pick (ltb 255 a) 1 (pick (ltb 255 v) 2 (pick (readOnly a) 3 (pick (reserved a) 3 x))))) 6) last
 
   pub read-number : (a : ℕ) → step c (Read a) .refused
-      ≡ pick (inRange (c .core)) (pick (isAsleep (c .core .activity .mode)) 7 (pick (ltb 255 a) 1 (pick (writeOnly a) 4 (pick (reserved a) 4 0)))) 6
+      ≡ pick (inRange c) (pick (isAsleep (c .core .activity .mode)) 7 (pick (ltb 255 a) 1 (pick (writeOnly a) 4 (pick (reserved a) 4 0)))) 6
   unfolding step hostRead accept due number accessRefusals readRefusals
-  read-number a = due-number _ _ refl ∙ turned (inRange (c .core)) 6 (due (drop 1 (accessRefusals (c .core) a ++ readRefusals a)))
+  read-number a = due-number _ _ refl ∙ turned (inRange c) 6 (due (drop 1 (accessRefusals c a ++ readRefusals a)))
 
-  pub slot-number : (l : ℕ) → step c (Slot l) .refused ≡ pick (inRange (c .core)) (pick (ltb 7 l) 5 0) 6
+  pub slot-number : (l : ℕ) → step c (Slot l) .refused ≡ pick (inRange c) (pick (ltb 7 l) 5 0) 6
   unfolding step slot answered restedSlot accept due number
   slot-number l =
-      due-number _ _ (picked (λ (y : Answer). y .refused ≡ 0) (isActive (c .core .activity .mode)) (answered (activeSlot c l)) (restedSlot c) (λ a. refl) (λ a. refl))
-      ∙ turned (inRange (c .core)) 6 (due ((ltb 7 l, Levels) ∷ []))
+      due-number _ _ (picked (λ (y : Answer). y .refused ≡ 0) (isActive (c .core .activity .mode)) (answered (activeSlot c l)) (restedSlot (restingSlot c l)) (λ a. refl) (λ a. refl))
+      ∙ turned (inRange c) 6 (due ((ltb 7 l, Levels) ∷ []))

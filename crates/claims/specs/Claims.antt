@@ -51,6 +51,8 @@ use Rattle.every_run.specs.Settled.{SettledOver}
 use Rattle.every_run.specs.Receiving.{noLog, received, ReceivingOver}
 use Rattle.every_run.specs.OwnFrames.{OwnFrames}
 use Rattle.every_run.specs.Interrupts as interrupt
+use Rattle.every_run.specs.Wires as wire
+use Rattle.diagnosis.specs.Claims as diagnosis-runs
 use Rattle.rules.specs.Statements.Claims as rules
 use Rattle.closed_runs.specs.Claims as closed
 use Rattle.rules.specs.declared.Winner.{Winner}
@@ -79,18 +81,18 @@ pub record Refusals : Type 0 where
   -- "Each returns its number and zero elsewhere"
   pub zero-elsewhere : (c : Controller) (e : Event) → (step c e .refused ≡ 0 → ⊥) → step c e .value ≡ 0
   -- "no state reached from a fresh one is refused" with 6
-  pub in-range : (es : List Event) → inRange (after fresh es .core) ≡ true
+  pub in-range : (es : List Event) → inRange (after fresh es) ≡ true
   pub never-six : (es : List Event) (e : Event) → step (after fresh es) e .refused ≡ 6 → ⊥
   -- "Pin reset: 6."
-  pub of-reset : (c : Controller) → step c Reset .refused ≡ pick (inRange (c .core)) 0 6
+  pub of-reset : (c : Controller) → step c Reset .refused ≡ pick (inRange c) 0 6
   -- "Order, host access: 6, 7, 1, 2, 3 or 4, 8."
   pub of-write : (c : Controller) (a v : ℕ) → step c (Write a v) .refused
-      ≡ pick (inRange (c .core)) (pick (isAsleep (c .core .activity .mode)) 7 (pick (ltb 255 a) 1
+      ≡ pick (inRange c) (pick (isAsleep (c .core .activity .mode)) 7 (pick (ltb 255 a) 1
       (pick (ltb 255 v) 2 (pick (readOnly a) 3 (pick (reserved a) 3 (pick (fixedBits a (v % 256)) 0 8)))))) 6
   pub of-read : (c : Controller) (a : ℕ) → step c (Read a) .refused
-      ≡ pick (inRange (c .core)) (pick (isAsleep (c .core .activity .mode)) 7 (pick (ltb 255 a) 1 (pick (writeOnly a) 4 (pick (reserved a) 4 0)))) 6
+      ≡ pick (inRange c) (pick (isAsleep (c .core .activity .mode)) 7 (pick (ltb 255 a) 1 (pick (writeOnly a) 4 (pick (reserved a) 4 0)))) 6
   -- "Slots: 6, 5"
-  pub of-slot : (c : Controller) (levels : ℕ) → step c (Slot levels) .refused ≡ pick (inRange (c .core)) (pick (ltb 7 levels) 5 0) 6
+  pub of-slot : (c : Controller) (levels : ℕ) → step c (Slot levels) .refused ≡ pick (inRange c) (pick (ltb 7 levels) 5 0) 6
   -- and the buffers lent to the codec
   pub encode-room : (room : List ℕ) (f : Frame) (r : codec-refusal.Refusal) → encodedRoom room f (encoding.Refused r) ≡ room
   pub decode-room : (room : List ℕ) (x : Reading) (r : codec-refusal.Refusal) → decoded (length room) x ≡ decoding.Refused r → decodedRoom room x ≡ room
@@ -228,6 +230,18 @@ pub record EveryEvent : Type 0 where
   --   sending, message, error: the registers 0x05, 0x06, 0x07        rst, te, tok, re, rok, rnok: each bit of 0x09: raised, kept or cleared
   pub settled : (es : List Event) → SettledOver fresh atReset es
 
+-- ---- the three-wire diagnosis (02, Req 05)
+
+pub record Diagnosis : Type 0 where
+  -- for every list of events, by a record of the raw levels that has no largest values (crates/every_run/specs/Wires.antt)
+  --   every, of each event: the counts are those of the raw levels, each stopping at its largest, and the slots of the period are below the divider (Counts); a wire that stands still while the
+  --     other shows four edges in one period is found in the slot of the fourth edge, and in automatic selection the next sample is that of the other wire (Finds; where no other rule speaks, Alone)
+  --   nominal: as long as the levels of the three inputs are equal, every period that a pulse ends has four edges, and there are no eight dominant samples in a row, whatever else
+  --     happens, the diagnosis stays nominal with Sc 0
+  pub wires : wire.Diagnosed
+  -- closed runs of the diagnosis alone: each rule, the pulses, the turn in major error, RI (crates/diagnosis/specs/Claims.antt)
+  pub runs : diagnosis-runs.Courses
+
 -- ---- demand 3
 
 pub record Sending : Type 0 where
@@ -236,8 +250,9 @@ pub record Sending : Type 0 where
   -- for every list of events: one fixed frame of which each attempt drives an opening part, at most R + 1 errors, TE exactly at R + 1, at most
   -- (C + R + 1) × (60 + 10n) slots, by the tally's own count (SendingOver and Claim in crates/every_run/specs/Sending.antt, the tally in Tally.antt, the observer
   -- that keeps it in Observer.antt). Of each event:
-  --   agrees: mode, free line, start taken, frame under way, role, service, counts and driven level of the controller are those of the observer, which reads nothing of it but its
+  --   agrees: mode, free line, start taken, frame under way, role, service, counts, driven level and diagnosis of the controller are those of the observer, which reads nothing of it but its
   --     memory map, the levels driven and sampled, whether an event was accepted and the longest data length
+  --   sampled: the level sampled is that of the input which the observer's own diagnosis selects as the slot begins (02, Req 05)
   --   fits: the frame of the service under way is a frame no longer than the controller sends
   --   driven: in an accepted slot of an attempt, the levels driven in it, that of this slot included, begin the frame's slots, or those from the eleventh on where it joined
   --   answer: in an accepted slot of an answered request the model drives dominant only where the frame that answers is owed an acknowledge

@@ -37,6 +37,11 @@ pub fn event_claims()
     ensures { λ _. ⌜ claims.EveryEvent ⌝ }
 {}
 
+// Holds the claim on the three-wire diagnosis, for every list of events from a fresh controller; it does nothing.
+pub fn diagnosis_claims()
+    ensures { λ _. ⌜ claims.Diagnosis ⌝ }
+{}
+
 // Holds demand 3, for every list of events from a fresh controller; it does nothing.
 pub fn sending_claims()
     ensures { λ _. ⌜ claims.Sending ⌝ }

@@ -14,35 +14,35 @@ use Rattle.every_run.specs.Tally.{requestT}
 use Rattle.every_run.specs.Observer.{atReset}
 use Rattle.every_run.specs.Sending.{boundOf}
 use Rattle.closed_runs.specs.Seen.{Counts, seenOver}
-use Rattle.closed_runs.specs.Claims.{Received, Runs, MoreCourses}
+use Rattle.closed_runs.specs.Claims.{wired, Received, Runs, MoreCourses}
 use Rattle.rules.specs.Statements.Runs.{setUp, ones, levels, sent, echoed, overdriven, ran, listening, asking, Stored, lastAnswer, reads, sees, pin, again, sendingData, failures, refuses, readsFrom, writesFrom, framed, heardBy, lower, captured, roomFor}
 use Rattle.rules.specs.declared.Event.the-variants.{Slot, Write}
 
-pub success : Counts (seenOver fresh atReset (setUp ++ (ones 12 ++ echoed)) (Slot 1)) 0 0 60
+pub success : Counts (seenOver fresh atReset (setUp ++ (ones 12 ++ echoed)) (Slot 7)) 0 0 60
 unfolding seenOver setUp ones echoed levels sent
 success = (refl, refl, refl)
 
-pub exhausted : Counts (seenOver fresh atReset (setUp ++ (ones 12 ++ (Slot 1 ∷ (ones 12 ++ (Slot 1 ∷ ones 12))))) (Slot 1)) 0 3 3
+pub exhausted : Counts (seenOver fresh atReset (setUp ++ (ones 12 ++ (Slot 7 ∷ (ones 12 ++ (Slot 7 ∷ ones 12))))) (Slot 7)) 0 3 3
 unfolding seenOver setUp ones
 exhausted = (refl, refl, refl)
 
-pub lost-twice : Counts (seenOver fresh atReset (setUp ++ (ones 12 ++ (overdriven ++ (ones 12 ++ (overdriven ++ (ones 12 ++ echoed)))))) (Slot 1)) 2 0 82
+pub lost-twice : Counts (seenOver fresh atReset (setUp ++ (ones 12 ++ (overdriven ++ (ones 12 ++ (overdriven ++ (ones 12 ++ echoed)))))) (Slot 7)) 2 0 82
 unfolding seenOver setUp ones overdriven echoed levels sent
 lost-twice = (refl, refl, refl)
 
-pub join : Counts (seenOver fresh atReset (setUp ++ (Write 0x01 0x22 ∷ (ones 12 ++ echoed))) (Slot 1)) 0 0 50
+pub join : Counts (seenOver fresh atReset (setUp ++ (Write 0x01 0x22 ∷ (ones 12 ++ echoed))) (Slot 7)) 0 0 50
 unfolding seenOver setUp ones echoed levels sent
 join = (refl, refl, refl)
 
-pub abort : Counts (seenOver fresh atReset (setUp ++ (ones 12 ++ (Slot 0 ∷ Slot 0 ∷ Slot 0 ∷ Write 0x13 0x0C ∷ []))) (Slot 1)) 0 1 4
+pub abort : Counts (seenOver fresh atReset (setUp ++ (ones 12 ++ (Slot 0 ∷ Slot 0 ∷ Slot 0 ∷ Write 0x13 0x0C ∷ []))) (Slot 7)) 0 1 4
 unfolding seenOver setUp ones
 abort = (refl, refl, refl)
 
-pub answer-taken : Counts (seenOver fresh atReset (heardBy (Write 0x19 0x3B ∷ Write 0x01 0x23 ∷ []) (take 79 (slots (framed 10 (0xA5 ∷ 0x3C ∷ []))))) (Slot 1)) 0 0 80
+pub answer-taken : Counts (seenOver fresh atReset (heardBy (Write 0x19 0x3B ∷ Write 0x01 0x23 ∷ []) (take 79 (slots (framed 10 (0xA5 ∷ 0x3C ∷ []))))) (Slot 7)) 0 0 80
 unfolding seenOver heardBy listening ones levels framed
 answer-taken = (refl, refl, refl)
 
-pub answer-wasted : Counts (seenOver fresh atReset (heardBy (Write 0x19 0x3B ∷ Write 0x01 0x23 ∷ Write 0x1B 0x10 ∷ []) (take 79 (slots (framed 10 (0xA5 ∷ 0x3C ∷ []))))) (Slot 1)) 0 1 80
+pub answer-wasted : Counts (seenOver fresh atReset (heardBy (Write 0x19 0x3B ∷ Write 0x01 0x23 ∷ Write 0x1B 0x10 ∷ []) (take 79 (slots (framed 10 (0xA5 ∷ 0x3C ∷ []))))) (Slot 7)) 0 1 80
 unfolding seenOver heardBy listening ones levels framed
 answer-wasted = (refl, refl, refl)
 
@@ -74,11 +74,11 @@ pub sent-with-data : sees (sendingData ++ (ones 12 ++ levels (slots asking))) (0
 unfolding lastAnswer ran sees reads sendingData ones levels asking
 sent-with-data = refl
 
-pub eleven-are-too-few : sees (listening ++ (ones 12 ++ (Slot 0 ∷ Slot 1 ∷ (ones 11 ++ levels (slots asking))))) (0x07 ∷ 0x1B ∷ 0xFF ∷ []) ≡ 0x02 ∷ 0x18 ∷ 0x00 ∷ []
+pub eleven-are-too-few : sees (listening ++ (ones 12 ++ (Slot 0 ∷ Slot 7 ∷ (ones 11 ++ levels (slots asking))))) (0x07 ∷ 0x1B ∷ 0xFF ∷ []) ≡ 0x02 ∷ 0x18 ∷ 0x00 ∷ []
 unfolding lastAnswer ran sees reads listening ones levels asking
 eleven-are-too-few = refl
 
-pub twelve-are-enough : sees (listening ++ (ones 12 ++ (Slot 0 ∷ Slot 1 ∷ (ones 12 ++ levels (slots asking))))) (0x07 ∷ 0x1B ∷ 0xFF ∷ []) ≡ 0x02 ∷ 0x19 ∷ 0x82 ∷ []
+pub twelve-are-enough : sees (listening ++ (ones 12 ++ (Slot 0 ∷ Slot 7 ∷ (ones 12 ++ levels (slots asking))))) (0x07 ∷ 0x1B ∷ 0xFF ∷ []) ≡ 0x02 ∷ 0x19 ∷ 0x82 ∷ []
 unfolding lastAnswer ran sees reads listening ones levels asking
 twelve-are-enough = refl
 
@@ -146,7 +146,7 @@ pub channel-13 : sees (Write 0x78 0xF2 ∷ Write 0x79 0x39 ∷ Write 0x7A 0x7F �
 unfolding lastAnswer ran sees reads ones levels framed
 channel-13 = refl
 
-pub channel-13-sends : sees (Write 0x79 0x38 ∷ Write 0x7B 0x08 ∷ Write 0x03 0x10 ∷ Slot 1 ∷ []) (0x04 ∷ 0x05 ∷ []) ≡ 0x02 ∷ 0x0D ∷ []
+pub channel-13-sends : sees (Write 0x79 0x38 ∷ Write 0x7B 0x08 ∷ Write 0x03 0x10 ∷ Slot 7 ∷ []) (0x04 ∷ 0x05 ∷ []) ≡ 0x02 ∷ 0x0D ∷ []
 unfolding lastAnswer ran sees reads
 channel-13-sends = refl
 
@@ -329,6 +329,30 @@ pub fault-leaves-none : drop 0x80 (ran fresh (heardBy (roomFor 5) (take 79 (slot
 unfolding lastAnswer ran heardBy listening ones levels captured roomFor
 fault-leaves-none = refl
 
+pub cut-data-stored : sees (Write 0x02 0x0C ∷ (listening ++ (ones 12 ++ (wired 2 (take 20 (slots asking)) ++ wired 3 (drop 20 (slots asking)))))) (0x04 ∷ 0x09 ∷ 0x1B ∷ 0xFF ∷ 0x80 ∷ 0x81 ∷ []) ≡ 0x14 ∷ 0x82 ∷ 0x19 ∷ 0x82 ∷ 0xA5 ∷ 0x3C ∷ []
+unfolding lastAnswer ran sees reads listening heardBy ones levels asking wired
+cut-data-stored = refl
+
+pub cut-data-bar-stored : sees (Write 0x02 0x0C ∷ (listening ++ (ones 12 ++ (wired 4 (take 20 (slots asking)) ++ wired 5 (drop 20 (slots asking)))))) (0x04 ∷ 0x09 ∷ 0x1B ∷ 0xFF ∷ 0x80 ∷ 0x81 ∷ []) ≡ 0x18 ∷ 0x82 ∷ 0x19 ∷ 0x82 ∷ 0xA5 ∷ 0x3C ∷ []
+unfolding lastAnswer ran sees reads listening heardBy ones levels asking wired
+cut-data-bar-stored = refl
+
+pub returned : (sees (heardBy [] [] ++ wired 4 (take 79 (slots asking))) (0x04 ∷ []) ≡ 0x19 ∷ []) × (sees (heardBy [] [] ++ wired 4 (slots asking)) (0x04 ∷ []) ≡ 0x00 ∷ []) × (sees (heardBy [] [] ++ (wired 4 (slots asking) ++ ones 1)) (0x04 ∷ []) ≡ 0x08 ∷ [])
+unfolding lastAnswer ran sees reads listening heardBy ones levels asking wired
+returned = (refl, refl, refl)
+
+pub silent : (sees (Write 0x02 0x01 ∷ ones 63) (0x04 ∷ []) ≡ 0x20 ∷ []) × (sees (Write 0x02 0x01 ∷ ones 64) (0x04 ∷ []) ≡ 0x2C ∷ [])
+unfolding lastAnswer ran sees reads listening heardBy ones levels asking wired
+silent = (refl, refl)
+
+pub by-hand : sees (Write 0x03 0x01 ∷ []) (0x04 ∷ []) ≡ 0x2C ∷ []
+unfolding lastAnswer ran sees reads listening heardBy ones levels asking wired
+by-hand = refl
+
+pub nominal-again : sees (Write 0x03 0x01 ∷ Slot 0 ∷ Slot 7 ∷ Slot 0 ∷ Slot 7 ∷ Write 0x03 0x01 ∷ []) (0x04 ∷ []) ≡ 0x20 ∷ []
+unfolding lastAnswer ran sees reads listening heardBy ones levels asking wired
+nominal-again = refl
+
 pub courses : MoreCourses
 courses =
     record {
@@ -392,4 +416,10 @@ courses =
       answer-check-kept = answer-check-kept;
       reply-check-kept = reply-check-kept;
       fault-leaves-none = fault-leaves-none;
+      cut-data-stored = cut-data-stored;
+      cut-data-bar-stored = cut-data-bar-stored;
+      returned = returned;
+      silent = silent;
+      by-hand = by-hand;
+      nominal-again = nominal-again;
     }

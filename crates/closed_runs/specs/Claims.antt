@@ -1,10 +1,11 @@
 -- Closed runs: the tally's numbers, and what a host reads. Those that refuse an edit of crates/rules are in that crate (Courses in its Statements).
-use Prim.Native.Nat.{_+_, _*_}
+use Prim.Native.Nat.{ℕ, _+_, _*_}
 use mathlib.Core.Bool.{true}
-use mathlib.Core.List.{[], _∷_, _++_}
+use mathlib.Core.List.{List, [], _∷_, _++_}
 use mathlib.Core.Path.{_≡_}
-use lib.Dec.{leb}
+use lib.Dec.{eqb, leb}
 use lib.ListN.{take, drop, replicate}
+use Rattle.line.specs.Bits.{pick}
 use Rattle.line.specs.LineCode.{lineCode}
 use Rattle.line.specs.Frame.{byteBits, slots, size}
 use Rattle.rules.specs.Definitions.Slots.{drives}
@@ -12,8 +13,14 @@ use Rattle.rules.specs.Definitions.Run.{fresh}
 use Rattle.every_run.specs.Sending.{boundOf}
 use Rattle.every_run.specs.Observer.{atReset}
 use Rattle.rules.specs.Statements.Runs.{setUp, ones, levels, echoed, overdriven, ran, listening, asking, Stored, sees, pin, again, sendingData, failures, refuses, readsFrom, writesFrom, framed, heardBy, lower, captured, roomFor}
+use Rattle.rules.specs.declared.Event.{Event}
 use Rattle.rules.specs.declared.Event.the-variants.{Slot, Write}
 use Rattle.closed_runs.specs.Seen.{Counts, seenOver}
+
+-- slots of given levels on some wires: `low` are the levels of the three inputs in a dominant slot, a recessive one has 7
+unfoldable pub wired : ℕ → List ℕ → List Event
+wired low [] = []
+wired low (v ∷ vs) = Slot (pick (eqb v 0) low 7) ∷ wired low vs
 
 -- a closed run: the acknowledge is driven, and the frame is stored
 pub record Received : Type 0 where
@@ -22,14 +29,14 @@ pub record Received : Type 0 where
 
 -- closed runs: what was lost, failed and spent (C, errors, slots) once the last sample is judged
 pub record Runs : Type 0 where
-  pub success : Counts (seenOver fresh atReset (setUp ++ (ones 12 ++ echoed)) (Slot 1)) 0 0 60
-  pub exhausted : Counts (seenOver fresh atReset (setUp ++ (ones 12 ++ (Slot 1 ∷ (ones 12 ++ (Slot 1 ∷ ones 12))))) (Slot 1)) 0 3 3
-  pub lost-twice : Counts (seenOver fresh atReset (setUp ++ (ones 12 ++ (overdriven ++ (ones 12 ++ (overdriven ++ (ones 12 ++ echoed)))))) (Slot 1)) 2 0 82
-  pub join : Counts (seenOver fresh atReset (setUp ++ (Write 0x01 0x22 ∷ (ones 12 ++ echoed))) (Slot 1)) 0 0 50
-  pub abort : Counts (seenOver fresh atReset (setUp ++ (ones 12 ++ (Slot 0 ∷ Slot 0 ∷ Slot 0 ∷ Write 0x13 0x0C ∷ []))) (Slot 1)) 0 1 4
+  pub success : Counts (seenOver fresh atReset (setUp ++ (ones 12 ++ echoed)) (Slot 7)) 0 0 60
+  pub exhausted : Counts (seenOver fresh atReset (setUp ++ (ones 12 ++ (Slot 7 ∷ (ones 12 ++ (Slot 7 ∷ ones 12))))) (Slot 7)) 0 3 3
+  pub lost-twice : Counts (seenOver fresh atReset (setUp ++ (ones 12 ++ (overdriven ++ (ones 12 ++ (overdriven ++ (ones 12 ++ echoed)))))) (Slot 7)) 2 0 82
+  pub join : Counts (seenOver fresh atReset (setUp ++ (Write 0x01 0x22 ∷ (ones 12 ++ echoed))) (Slot 7)) 0 0 50
+  pub abort : Counts (seenOver fresh atReset (setUp ++ (ones 12 ++ (Slot 0 ∷ Slot 0 ∷ Slot 0 ∷ Write 0x13 0x0C ∷ []))) (Slot 7)) 0 1 4
   -- 02, Req 01
-  pub answer-taken : Counts (seenOver fresh atReset (heardBy (Write 0x19 0x3B ∷ Write 0x01 0x23 ∷ []) (take 79 (slots (framed 10 (0xA5 ∷ 0x3C ∷ []))))) (Slot 1)) 0 0 80
-  pub answer-wasted : Counts (seenOver fresh atReset (heardBy (Write 0x19 0x3B ∷ Write 0x01 0x23 ∷ Write 0x1B 0x10 ∷ []) (take 79 (slots (framed 10 (0xA5 ∷ 0x3C ∷ []))))) (Slot 1)) 0 1 80
+  pub answer-taken : Counts (seenOver fresh atReset (heardBy (Write 0x19 0x3B ∷ Write 0x01 0x23 ∷ []) (take 79 (slots (framed 10 (0xA5 ∷ 0x3C ∷ []))))) (Slot 7)) 0 0 80
+  pub answer-wasted : Counts (seenOver fresh atReset (heardBy (Write 0x19 0x3B ∷ Write 0x01 0x23 ∷ Write 0x1B 0x10 ∷ []) (take 79 (slots (framed 10 (0xA5 ∷ 0x3C ∷ []))))) (Slot 7)) 0 1 80
   pub longest-answer : Counts (seenOver fresh atReset (heardBy (Write 0x19 0x3B ∷ Write 0x01 0x03 ∷ []) (take 359 (slots (framed 10 (replicate 30 0))))) (Slot 0)) 0 1 360
   -- the slots of `longest-answer` are within the bound of a request, R = 0; n in the bound of another frame is its data bytes
   pub longest-answer-bound : leb 360 ((0 + 0 + 1) * size (boundOf 30 (framed 11 []))) ≡ true
@@ -45,8 +52,8 @@ pub record MoreCourses : Type 0 where
   pub not-sent-yet : sees (sendingData ++ (ones 12 ++ levels (take 79 (slots asking)))) (0x09 ∷ 0x13 ∷ []) ≡ 0x80 ∷ 0x18 ∷ []
   pub sent-with-data : sees (sendingData ++ (ones 12 ++ levels (slots asking))) (0x06 ∷ 0x07 ∷ 0x09 ∷ 0x13 ∷ []) ≡ 0x00 ∷ 0x00 ∷ 0x88 ∷ 0x1A ∷ []
   -- after a fault a start is taken behind twelve recessive slots, not behind eleven; 0x07 keeps the fault
-  pub eleven-are-too-few : sees (listening ++ (ones 12 ++ (Slot 0 ∷ Slot 1 ∷ (ones 11 ++ levels (slots asking))))) (0x07 ∷ 0x1B ∷ 0xFF ∷ []) ≡ 0x02 ∷ 0x18 ∷ 0x00 ∷ []
-  pub twelve-are-enough : sees (listening ++ (ones 12 ++ (Slot 0 ∷ Slot 1 ∷ (ones 12 ++ levels (slots asking))))) (0x07 ∷ 0x1B ∷ 0xFF ∷ []) ≡ 0x02 ∷ 0x19 ∷ 0x82 ∷ []
+  pub eleven-are-too-few : sees (listening ++ (ones 12 ++ (Slot 0 ∷ Slot 7 ∷ (ones 11 ++ levels (slots asking))))) (0x07 ∷ 0x1B ∷ 0xFF ∷ []) ≡ 0x02 ∷ 0x18 ∷ 0x00 ∷ []
+  pub twelve-are-enough : sees (listening ++ (ones 12 ++ (Slot 0 ∷ Slot 7 ∷ (ones 12 ++ levels (slots asking))))) (0x07 ∷ 0x1B ∷ 0xFF ∷ []) ≡ 0x02 ∷ 0x19 ∷ 0x82 ∷ []
   -- the codes of 0x07: ACKE, FCSE, FV for an acknowledge that RAK 0 does not ask for; a frame that does not fit is not acknowledged
   pub not-acknowledged : sees (sendingData ++ (ones 12 ++ (levels (take 71 (slots asking)) ++ ones 1))) (0x05 ∷ 0x07 ∷ 0x09 ∷ []) ≡ 0x10 ∷ 0x04 ∷ 0x80 ∷ []
   pub check-wrong : sees (heardBy [] (take 40 (slots asking) ++ drop 40 (slots again))) (0x07 ∷ 0x09 ∷ 0x1B ∷ []) ≡ 0x08 ∷ 0x84 ∷ 0x1C ∷ []
@@ -70,7 +77,7 @@ pub record MoreCourses : Type 0 where
   pub rnok : sees (heardBy (Write 0x1B 0x1A ∷ []) (slots (framed 8 []))) (0x06 ∷ 0x07 ∷ 0x09 ∷ 0x1B ∷ []) ≡ 0x01 ∷ 0x00 ∷ 0x81 ∷ 0x1B ∷ []
   -- channel 13 takes a frame, and sends
   pub channel-13 : sees (Write 0x78 0xF2 ∷ Write 0x79 0x39 ∷ Write 0x7A 0x7F ∷ Write 0x7B 0x18 ∷ Write 0x7E 0xFF ∷ Write 0x7F 0xF0 ∷ Write 0x03 0x10 ∷ (ones 12 ++ levels (slots (framed 8 [])))) (0x06 ∷ 0x09 ∷ 0x7B ∷ 0xFF ∷ []) ≡ 0x0D ∷ 0x81 ∷ 0x19 ∷ 0x00 ∷ []
-  pub channel-13-sends : sees (Write 0x79 0x38 ∷ Write 0x7B 0x08 ∷ Write 0x03 0x10 ∷ Slot 1 ∷ []) (0x04 ∷ 0x05 ∷ []) ≡ 0x02 ∷ 0x0D ∷ []
+  pub channel-13-sends : sees (Write 0x79 0x38 ∷ Write 0x7B 0x08 ∷ Write 0x03 0x10 ∷ Slot 7 ∷ []) (0x04 ∷ 0x05 ∷ []) ≡ 0x02 ∷ 0x0D ∷ []
   -- thirty data bytes: the count in the status byte, the first and the last, and no other
   pub longest-taken : sees (heardBy (Write 0x1A 0x10 ∷ Write 0x1B 0xF8 ∷ []) (slots (framed 8 (replicate 30 0xA5)))) (0x09 ∷ 0x1B ∷ 0x90 ∷ 0x91 ∷ 0xAE ∷ 0xAF ∷ []) ≡ 0x81 ∷ 0xF9 ∷ 0x1E ∷ 0xA5 ∷ 0xA5 ∷ 0x00 ∷ []
   -- CV: a pair 11, and a dominant eighth end-of-frame slot
@@ -128,3 +135,13 @@ pub record MoreCourses : Type 0 where
   pub reply-check-kept : sees (heardBy (Write 0x19 0x3B ∷ Write 0x1B 0x28 ∷ Write 0x01 0x23 ∷ Write 0x1F 0x00 ∷ []) (slots lower)) (0x1B ∷ 0xFF ∷ 0x80 ∷ 0x81 ∷ 0x82 ∷ 0x83 ∷ []) ≡ 0x29 ∷ 0x42 ∷ 0xA5 ∷ 0x3C ∷ 0x6F ∷ 0xF2 ∷ []
   -- a frame with a fault in its last slot leaves no byte
   pub fault-leaves-none : drop 0x80 (ran fresh (heardBy (roomFor 5) (take 79 (slots captured) ++ (0 ∷ []))) .memory) ≡ replicate 128 0
+  -- 02, Req 05. A loom with a cut DATA wire: RxD1 stays recessive. It is found while a frame is received, from then on RxD2 alone carries the frame, and it is stored
+  pub cut-data-stored : sees (Write 0x02 0x0C ∷ (listening ++ (ones 12 ++ (wired 2 (take 20 (slots asking)) ++ wired 3 (drop 20 (slots asking)))))) (0x04 ∷ 0x09 ∷ 0x1B ∷ 0xFF ∷ 0x80 ∷ 0x81 ∷ []) ≡ 0x14 ∷ 0x82 ∷ 0x19 ∷ 0x82 ∷ 0xA5 ∷ 0x3C ∷ []
+  -- the same on the other wire
+  pub cut-data-bar-stored : sees (Write 0x02 0x0C ∷ (listening ++ (ones 12 ++ (wired 4 (take 20 (slots asking)) ++ wired 5 (drop 20 (slots asking)))))) (0x04 ∷ 0x09 ∷ 0x1B ∷ 0xFF ∷ 0x80 ∷ 0x81 ∷ []) ≡ 0x18 ∷ 0x82 ∷ 0x19 ∷ 0x82 ∷ 0xA5 ∷ 0x3C ∷ []
+  -- a specified selection: RI in the last slot of the frame, and the finding is back one slot later
+  pub returned : (sees (heardBy [] [] ++ wired 4 (take 79 (slots asking))) (0x04 ∷ []) ≡ 0x19 ∷ []) × (sees (heardBy [] [] ++ wired 4 (slots asking)) (0x04 ∷ []) ≡ 0x00 ∷ []) × (sees (heardBy [] [] ++ (wired 4 (slots asking) ++ ones 1)) (0x04 ∷ []) ≡ 0x08 ∷ [])
+  -- major error by silence, in the 64th slot; the pulse by hand, and with four edges the return to nominal
+  pub silent : (sees (Write 0x02 0x01 ∷ ones 63) (0x04 ∷ []) ≡ 0x20 ∷ []) × (sees (Write 0x02 0x01 ∷ ones 64) (0x04 ∷ []) ≡ 0x2C ∷ [])
+  pub by-hand : sees (Write 0x03 0x01 ∷ []) (0x04 ∷ []) ≡ 0x2C ∷ []
+  pub nominal-again : sees (Write 0x03 0x01 ∷ Slot 0 ∷ Slot 7 ∷ Slot 0 ∷ Slot 7 ∷ Write 0x03 0x01 ∷ []) (0x04 ∷ []) ≡ 0x20 ∷ []

@@ -6,6 +6,7 @@ ghost use Rattle.rules.specs.Definitions.Service as service;
 ghost use Rattle.rules.specs.Definitions.State as core;
 ghost use Rattle.rules.specs.Definitions.Answers as answers;
 use channels::Layout;
+use diagnosis::Diagnosis;
 use registers::Map;
 use rules::Activity;
 use rules::Core;
@@ -202,14 +203,38 @@ fn stopped_core(k: Core, s: Service) -> Core
     state::idle_due(t)
 }
 
+// A pulse by hand; other SDC bits in 0x02.
+fn diagnosis_written(m: &[u8; 256], x: Diagnosis, address: usize, v: u8) -> Diagnosis
+    ensures { λ r. ⌜ r ≡ rule.diagnosisWritten (now (m .entry)) x address v ⌝ }
+{
+    let control = m[Map::DIAGNOSIS_CONTROL];
+    if address == Map::COMMAND {
+        let asked = Map::asked(v);
+        if asked.pulse {
+            return diagnosing::pulsed(control, x);
+        }
+        return x;
+    }
+    if address == Map::DIAGNOSIS_CONTROL {
+        if Map::rate(control) == Map::rate(v) {
+            return x;
+        }
+        return diagnosing::renewed(x);
+    }
+    x
+}
+
 fn byte_written(m: &mut [u8; 256], k: Core, address: usize, v: u8) -> Core
     ensures { λ r. ⌜ answers.controller (now (m .exit)) r ≡ rule.byteWritten (answers.controller (now (m .entry)) k) address v ⌝ }
 {
     let s = service_asked(k.service, address, v);
     let t = core_written(k, address, v);
+    let x = diagnosis_written(m, k.diagnosis, address, v);
     keep_byte(m, address, v);
     ending::end_memory(m, ending::stopped(s), k.service.channel);
-    stopped_core(t, s)
+    let mut stopped = stopped_core(t, s);
+    stopped.diagnosis = x;
+    stopped
 }
 
 // Reset, by pin or GRES.

@@ -7,3 +7,4 @@ pub mod Receiving
 pub mod OwnFrames
 pub mod Observer
 pub mod Interrupts
+pub mod Wires

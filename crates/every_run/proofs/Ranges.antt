@@ -3,3 +3,4 @@ pub mod Limits
 pub mod Reception
 pub mod Service
 pub mod Reach
+pub mod Counting

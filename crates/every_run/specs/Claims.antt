@@ -1,4 +1,4 @@
--- What is claimed of every run of events: refusals, sending, what every event leaves, receiving. OwnFrames.antt and Interrupts.antt state their claims whole.
+-- What is claimed of every run of events: refusals, sending, what every event leaves, receiving. OwnFrames.antt, Interrupts.antt and Wires.antt state their claims whole.
 use mathlib.Core.Bool.{true}
 use mathlib.Core.List.{List}
 use mathlib.Core.Path.{_≡_}
@@ -15,7 +15,7 @@ use Rattle.rules.specs.declared.Event.{Event}
 pub record Refusals : Type 0 where
   pub same : (c : Controller) (e : Event) → (step c e .refused ≡ 0 → ⊥) → step c e .next ≡ c
   pub zero-elsewhere : (c : Controller) (e : Event) → (step c e .refused ≡ 0 → ⊥) → step c e .value ≡ 0
-  pub in-range : (es : List Event) → inRange (after fresh es .core) ≡ true
+  pub in-range : (es : List Event) → inRange (after fresh es) ≡ true
   pub never-six : (es : List Event) (e : Event) → step (after fresh es) e .refused ≡ 6 → ⊥
 
 -- demand 3, for every list of events from a fresh controller

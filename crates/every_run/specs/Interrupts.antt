@@ -13,6 +13,7 @@ use Rattle.rules.specs.Definitions.Channels.{acknowledgeAsked}
 use Rattle.rules.specs.Statements.Bits.{bitAt}
 use Rattle.rules.specs.Definitions.Reception.{dataCount}
 use Rattle.rules.specs.Definitions.Hearing.{fits, hearFrame}
+use Rattle.rules.specs.Definitions.Service.{ownFrame}
 use Rattle.rules.specs.Definitions.State.{isActive}
 use Rattle.rules.specs.Definitions.Slots.{roleIn, heard, ending, sampleOf}
 use Rattle.rules.specs.Definitions.Host.{byteRead, interruptLine}
@@ -62,14 +63,6 @@ pub record Places (f : Flags) : Type 0 where
 pub record Sampled (c : Controller) (levels : ℕ) : Type 0 where
   pub taken : accepted c (Slot levels) ≡ true
   pub active : isActive (c .core .activity .mode) ≡ true
-
--- the model's own frame: its attempt or its immediate reply
-unfoldable pub ownFrame : Role → Bool
-ownFrame Nobody = false
-ownFrame Receiver = false
-ownFrame Sender = true
-ownFrame Asker = false
-ownFrame Replier = true
 
 -- one in which the model is neither sender nor replier, with a frame that a channel has matched
 pub record Received (c : Controller) (levels : ℕ) : Type 0 where

@@ -7,4 +7,5 @@ pub mod Valid
 pub mod OwnFrames
 pub mod Interrupts
 pub mod Receiving
+pub mod Wires
 pub mod Claims

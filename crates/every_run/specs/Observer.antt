@@ -1,9 +1,10 @@
 -- The claims' own record of a run (01, Sending: "is fed the run's events and driven levels; choices, starts and ends follow by these rules, not from the program's record").
 -- Beside the events, whether each was accepted, the driven and the sampled levels, the memory map and the longest data length it reads nothing of the controller: it keeps
--- its own mode, line, frame under way, tally and immediate reply.
+-- its own mode, line, frame under way, tally, immediate reply and diagnosis. That the level which it is fed as sampled is the one of the input that its own diagnosis
+-- selects is a claim (Sending.antt, `sampled`).
 --   Past == the line between frames        freeO, startsO == it is free, it takes a start        codeT == the code of an attempt's error
 --   hearsO == what a sample is for the line and the frame under way        heardDelivery, answerO == what another module's frame does, and for a request that it answers
---   fulfilledO == a stored reply ends a waiting request        Replying, replyIn == an immediate reply        sampledO, idleO, goesOnO == a slot        writtenO == a host write
+--   fulfilledO == a stored reply ends a waiting request        diagnosisO == the diagnosis after a slot        Replying, replyIn == an immediate reply        sampledO, idleO, goesOnO == a slot        writtenO == a host write
 --   nextO == the observer after an event
 use Prim.Native.Nat.{ℕ, suc, zero, _+_, _%_}
 use mathlib.Core.Bool.{Bool, true, false, not}
@@ -13,16 +14,18 @@ use lib.ListN.{length, getD}
 use Rattle.line.specs.Bits.{pick}
 use Rattle.line.specs.Frame.{Frame}
 use Rattle.line.specs.Layout.{partOf, halfOf}
+use Rattle.diagnosis.specs.Rules.{undiagnosed, inputLevel, connected, diagnosed}
+use Rattle.diagnosis.specs.declared.Diagnosis.{Diagnosis}
 use Rattle.rules.specs.Definitions.Longest.{longestOf}
-use Rattle.rules.specs.Definitions.Registers.{both, either, command, asksIdle, asksActivation, CV, ACKE, FCSE}
+use Rattle.rules.specs.Definitions.Registers.{both, either, diagnosisControl, command, asksIdle, asksActivation, CV, ACKE, FCSE}
 use Rattle.rules.specs.Definitions.Channels.{replierFor}
 use Rattle.rules.specs.Definitions.Mailbox.{replyFrame}
 use Rattle.rules.specs.Definitions.Reception.{quiet, underWay, readsAsked, replyLow, dataCount}
-use Rattle.rules.specs.Definitions.Hearing.{hearFrame}
+use Rattle.rules.specs.Definitions.Hearing.{hearFrame, endsWell}
 use Rattle.rules.specs.Definitions.Attempt.{inCheck, inAcknowledge}
-use Rattle.rules.specs.Definitions.State.{isActive, inMode}
-use Rattle.rules.specs.Definitions.Slots.{receptionJudged, drives, sampleOf}
-use Rattle.rules.specs.Definitions.Host.{resets, sleeps}
+use Rattle.rules.specs.Definitions.State.{isActive, isAsleep, inMode}
+use Rattle.rules.specs.Definitions.Slots.{receptionJudged, drives, levelsOf, sampleOf}
+use Rattle.rules.specs.Definitions.Host.{resets, sleeps, diagnosisWritten}
 use Rattle.rules.specs.Definitions.Run.{step, next}
 use Rattle.every_run.specs.Tally.{Stand, away, between, opening, inside, answered, Tally, none, Verdict, goes, contended, failed, sent, answers, Answering, comes, taken, wasted, requestT, openHalfT, verdict, countedT, endedT, chooseT, startT, askedT, isAway}
 use Rattle.rules.specs.declared.Mode.the-variants.{Idle, Active, Asleep}
@@ -77,25 +80,29 @@ pub record Observer : Type 0 where
   pub frame : Reception
   pub tally : Tally
   pub reply : Replying
+  pub diagnosis : Diagnosis
 
 abbrev pub withActivityO : Observer → Activity → Observer
-withActivityO o a = record { activity = a; line = o .line; frame = o .frame; tally = o .tally; reply = o .reply }
+withActivityO o a = record { activity = a; line = o .line; frame = o .frame; tally = o .tally; reply = o .reply; diagnosis = o .diagnosis }
 
 abbrev pub withLineO : Observer → Past → Observer
-withLineO o p = record { activity = o .activity; line = p; frame = o .frame; tally = o .tally; reply = o .reply }
+withLineO o p = record { activity = o .activity; line = p; frame = o .frame; tally = o .tally; reply = o .reply; diagnosis = o .diagnosis }
 
 abbrev pub withFrameO : Observer → Reception → Observer
-withFrameO o r = record { activity = o .activity; line = o .line; frame = r; tally = o .tally; reply = o .reply }
+withFrameO o r = record { activity = o .activity; line = o .line; frame = r; tally = o .tally; reply = o .reply; diagnosis = o .diagnosis }
 
 abbrev pub withTallyO : Observer → Tally → Observer
-withTallyO o t = record { activity = o .activity; line = o .line; frame = o .frame; tally = t; reply = o .reply }
+withTallyO o t = record { activity = o .activity; line = o .line; frame = o .frame; tally = t; reply = o .reply; diagnosis = o .diagnosis }
 
 abbrev pub withReplyO : Observer → Replying → Observer
-withReplyO o y = record { activity = o .activity; line = o .line; frame = o .frame; tally = o .tally; reply = y }
+withReplyO o y = record { activity = o .activity; line = o .line; frame = o .frame; tally = o .tally; reply = y; diagnosis = o .diagnosis }
+
+abbrev pub withDiagnosisO : Observer → Diagnosis → Observer
+withDiagnosisO o x = record { activity = o .activity; line = o .line; frame = o .frame; tally = o .tally; reply = o .reply; diagnosis = x }
 
 -- "resets the rest to idle mode"
 unfoldable pub atReset : Observer
-atReset = record { activity = inMode Idle false; line = anew false; frame = quiet; tally = none; reply = silent }
+atReset = record { activity = inMode Idle false; line = anew false; frame = quiet; tally = none; reply = silent; diagnosis = undiagnosed }
 
 -- ---- what a sample v is for the line and the frame under way; d is the level driven
 
@@ -245,6 +252,7 @@ sampledO o longest d v m =
       frame = receptionJudged m (hearsO o longest d v) (o .frame) v;
       tally = pick (fulfilledO o (hearsO o longest d v)) none (endedT (countedT (o .tally) d v (answerO o longest v)));
       reply = replyIn (o .tally .stand) (o .reply) longest m d v (receptionJudged m (hearsO o longest d v) (o .frame) v);
+      diagnosis = o .diagnosis;
     }
 
 -- "Idle waits until the service ends; with no service it acts at once, drops a frame under way"
@@ -271,12 +279,12 @@ unfoldable pub commandedO : Observer → ℕ → ℕ → Observer
 commandedO o address v =
     pick (eqb address command) (pick (asksIdle v) (idleAskedO o) (pick (asksActivation v) (activatedO o) o)) o
 
--- "GRES, pin reset and SLEEP end it at once"; "Command order: GRES, SLEEP, IDLE, ACTI; only the first one set acts (house)"
-unfoldable pub writtenO : Observer → ℕ → ℕ → Observer
-writtenO o address v =
+-- m is the memory map before it. "GRES, pin reset and SLEEP end it at once"; "Command order: GRES, SLEEP, IDLE, ACTI; only the first one set acts (house)"
+unfoldable pub writtenO : List ℕ → Observer → ℕ → ℕ → Observer
+writtenO m o address v =
     pick (resets address v) atReset
     (pick (sleeps address v) (withReplyO (withTallyO (withFrameO (withActivityO o (inMode Asleep false)) quiet) none) silent)
-    (idleO (withTallyO (commandedO o address v) (endedT (askedT (o .tally) address v)))))
+    (withDiagnosisO (idleO (withTallyO (commandedO o address v) (endedT (askedT (o .tally) address v)))) (diagnosisWritten m (o .diagnosis) address v)))
 
 -- ---- an event from controller c; "All else, refused or not, adds nothing"
 
@@ -294,14 +302,46 @@ seenIn c o (Slot levels) = pick (isActive (o .activity .mode)) (countedT (o .tal
 unfoldable pub seenO : Controller → Observer → Event → Tally
 seenO c o e = pick (accepted c e) (seenIn c o e) (o .tally)
 
+-- ---- the diagnosis (02, Req 05): worked out of the raw levels, the driven levels, and what the sample is; the slot began with the observer o
+
+-- the model drives a frame of its own
+unfoldable pub ownIn : Stand → Replying → Bool
+ownIn away y = isReplying y
+ownIn between y = isReplying y
+ownIn (opening start) y = true
+ownIn (inside start levels) y = true
+ownIn (answered start n) y = false
+
+-- it drives dominant in the slot and recessive in the next
+unfoldable pub turnsO : Controller → Observer → ℕ → Bool
+turnsO c o levels =
+    both (isActive (o .activity .mode))
+    (both (ownIn (o .tally .stand) (o .reply)) (both (eqb (drives (c .core)) 0) (eqb (drives (next c (Slot levels) .core)) 1)))
+
+-- a good frame ends
+unfoldable pub endedO : Controller → Observer → ℕ → Bool
+endedO c o levels = both (isActive (o .activity .mode)) (endsWell (hearsO o (longestOf (c .core)) (drives (c .core)) (sampleOf c levels)))
+
+-- "asleep nothing counts" (02)
+unfoldable pub diagnosisO : Controller → Observer → ℕ → Diagnosis
+diagnosisO c o levels =
+    pick (isAsleep (o .activity .mode)) (o .diagnosis)
+    (diagnosed (getD (c .memory) diagnosisControl 0) (levelsOf c levels) (turnsO c o levels) (endedO c o levels) (o .diagnosis))
+
+-- the level of the input that it selects as the slot begins
+unfoldable pub sampleO : Controller → Observer → ℕ → ℕ
+sampleO c o levels = inputLevel (levelsOf c levels) (connected (getD (c .memory) diagnosisControl 0) (o .diagnosis))
+
 unfoldable pub followO : Controller → Observer → Event → Observer
 followO c o Reset = atReset
-followO c o (Write address value) = writtenO o address (value % 256)
+followO c o (Write address value) = writtenO (c .memory) o address (value % 256)
 followO c o (Read address) = o
 followO c o (Slot levels) =
-    pick (isActive (o .activity .mode))
+    withDiagnosisO
+    (pick (isActive (o .activity .mode))
     (goesOnO (idleO (sampledO o (longestOf (c .core)) (drives (c .core)) (sampleOf c levels) (next c (Slot levels) .memory))) (longestOf (c .core)) (next c (Slot levels) .memory))
-    o
+    o)
+    (diagnosisO c o levels)
 
 unfoldable pub nextO : Controller → Observer → Event → Observer
 nextO c o e = pick (accepted c e) (followO c o e) o

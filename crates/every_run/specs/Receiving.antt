@@ -17,12 +17,11 @@ use Rattle.rules.specs.Definitions.Channels.{winnerFor}
 use Rattle.rules.specs.Definitions.Mailbox.{statusByte, laidFrom, checkBytes, retagged, markedCher, markedChrx}
 use Rattle.rules.specs.Definitions.Reception.{takesStart, underWay}
 use Rattle.every_run.specs.Valid.{high, low, owes, Valid}
-use Rattle.rules.specs.Definitions.Service.{receives}
+use Rattle.rules.specs.Definitions.Service.{receives, ownFrame}
 use Rattle.rules.specs.Definitions.State.{isActive}
 use Rattle.rules.specs.Definitions.Slots.{roleIn, heard, verdict, drives, sampleOf}
 use Rattle.rules.specs.Definitions.Run.{next}
 use Rattle.every_run.specs.Observer.{accepted}
-use Rattle.every_run.specs.Interrupts.{ownFrame}
 use Rattle.every_run.specs.OwnFrames.{statusAt}
 use Rattle.rules.specs.declared.Winner.{Winner}
 use Rattle.rules.specs.declared.Hearing.{Hearing}

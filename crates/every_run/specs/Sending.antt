@@ -13,10 +13,10 @@ use Rattle.rules.specs.Definitions.Reception.{free, takesStart, underWay}
 use Rattle.rules.specs.Definitions.Hearing.{acknowledges, receiverLevel}
 use Rattle.rules.specs.Definitions.Attempt.{largest}
 use Rattle.rules.specs.Definitions.State.{isActive, serving}
-use Rattle.rules.specs.Definitions.Slots.{roleIn, drives}
+use Rattle.rules.specs.Definitions.Slots.{roleIn, drives, sampleOf}
 use Rattle.rules.specs.Definitions.Run.{next}
 use Rattle.every_run.specs.Tally.{Stand, away, between, opening, inside, answered, Tally, requestT, isAway}
-use Rattle.every_run.specs.Observer.{freeO, startsO, Replying, silent, replies, isReplying, Observer, accepted, seenO, nextO}
+use Rattle.every_run.specs.Observer.{freeO, startsO, Replying, silent, replies, isReplying, Observer, accepted, sampleO, seenO, nextO}
 use Rattle.rules.specs.declared.Place.{Place}
 use Rattle.rules.specs.declared.Phase.the-variants.{Acknowledge}
 use Rattle.rules.specs.declared.Reception.{Reception}
@@ -75,6 +75,7 @@ pub record Agrees (c : Controller) (o : Observer) : Type 0 where
   pub service : serving (c .core .service) ≡ not (isAway (o .tally .stand))
   pub counts : isAway (o .tally .stand) ≡ false → Counted (c .core .service) (o .tally)
   pub level : drives (c .core) ≡ levelO o
+  pub diagnosis : c .core .diagnosis ≡ o .diagnosis
 
 -- ---- the claim
 
@@ -139,9 +140,17 @@ pub record Outside (c : Controller) (o : Observer) (e : Event) : Type 0 where
   pub slots : seenO c o e .slots ≡ o .tally .slots
   pub te : te c ≡ false → te (next c e) ≡ false
 
+-- "the sampled level in demand 3 is that of the input selected as the slot begins, before its edges count" (02, Req 05): by the observer's own diagnosis
+abbrev pub SampledAs : Controller → Observer → Event → Type 0
+SampledAs c o Reset = Unit {0}
+SampledAs c o (Write address value) = Unit {0}
+SampledAs c o (Read address) = Unit {0}
+SampledAs c o (Slot levels) = sampleOf c levels ≡ sampleO c o levels
+
 -- o is the observer before the event, seenO c o e its tally once the sample is judged. `errors` and `slots` are facts of the tally; the others bind the model
 pub record Claim (c : Controller) (o : Observer) (e : Event) : Type 0 where
   pub agrees : Agrees c o
+  pub sampled : SampledAs c o e
   -- the service's frame is one frame, no longer than the controller sends
   pub fits : isAway (o .tally .stand) ≡ false → Fits (longestOf (c .core)) (o .tally .frame)
   pub driven : accepted c e ≡ true → InSlot e (Drives (o .tally .stand) (o .tally .frame) (drives (c .core)))

@@ -253,7 +253,7 @@ Settled c e before after now = now ≡ pick (accepted c e) after before
 -- what a host reads: 0x04 by the observer, the other registers that the controller writes, else the byte of the map. `% 256` as in writtenMap
 unfoldable pub readO : Controller → Observer → ℕ → ℕ
 readO c o address =
-    pick (eqb address lineStatusAt) (lineStatus (isAsleep (o .activity .mode)) (isIdle (o .activity .mode)) (not (isAway (o .tally .stand))) (underWay (o .frame .place)))
+    pick (eqb address lineStatusAt) (lineStatus (isAsleep (o .activity .mode)) (isIdle (o .activity .mode)) (o .diagnosis) (not (isAway (o .tally .stand))) (underWay (o .frame .place)))
     (pick (eqb address transmissionStatus) (retriesByte (c .core .report .sending))
     (pick (eqb address lastMessageStatus) (retriesByte (c .core .report .message))
     (pick (eqb address lastErrorStatus) (c .core .report .error)

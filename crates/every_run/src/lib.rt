@@ -2,6 +2,7 @@
 ghost use Rattle.every_run.specs.Claims as claims;
 ghost use Rattle.every_run.specs.OwnFrames as own;
 ghost use Rattle.every_run.specs.Interrupts as interrupts;
+ghost use Rattle.every_run.specs.Wires as wires;
 
 // Holds the claims on refusals; it does nothing.
 pub fn refusal_claims()
@@ -31,4 +32,9 @@ pub fn own_claims()
 // Holds the claim on the interrupt line and the six status bits; it does nothing.
 pub fn interrupt_claims()
     ensures { λ _. ⌜ interrupts.Interrupts ⌝ }
+{}
+
+// Holds the claim on the three-wire diagnosis, for every list of events from a fresh controller; it does nothing.
+pub fn diagnosis_claims()
+    ensures { λ _. ⌜ wires.Diagnosed ⌝ }
 {}

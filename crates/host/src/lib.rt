@@ -14,7 +14,7 @@ use rules::Reply;
 pub fn pin_reset_on(m: &mut [u8; 256], k: Core) -> CoreOutcome
     ensures { λ r. ⌜ answers.answerLent r (now (m .exit)) ≡ run.pinReset (answers.controller (now (m .entry)) k) ⌝ }
 {
-    if ranges::in_range(k) {
+    if ranges::in_range(m, k) {
         let t = command::reset(m);
         return CoreOutcome {
             reply: Reply::Accepted(0),
@@ -68,7 +68,7 @@ fn write_on(m: &mut [u8; 256], k: Core, address: u16, value: u16) -> CoreOutcome
 pub fn host_write_on(m: &mut [u8; 256], k: Core, address: u16, value: u16) -> CoreOutcome
     ensures { λ r. ⌜ answers.answerLent r (now (m .exit)) ≡ run.hostWrite (answers.controller (now (m .entry)) k) address value ⌝ }
 {
-    if ranges::in_range(k) {
+    if ranges::in_range(m, k) {
         if modes::is_asleep(k.activity) {
             return CoreOutcome {
                 reply: Reply::Refused(Refusal::Asleep),

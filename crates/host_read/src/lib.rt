@@ -18,6 +18,7 @@ fn line_status_of(k: Core) -> u8
     status::line_status(
         modes::is_asleep(k.activity),
         modes::is_idle(k.activity),
+        k.diagnosis,
         state::serving(k.service),
         place::under_way(r.place),
     )
@@ -81,7 +82,7 @@ fn read_on(m: &[u8; 256], k: Core, address: u16) -> CoreOutcome
 pub fn host_read_on(m: &[u8; 256], k: Core, address: u16) -> CoreOutcome
     ensures { λ r. ⌜ answers.answerLent r (now (m .entry)) ≡ run.hostRead (answers.controller (now (m .entry)) k) address ⌝ }
 {
-    if ranges::in_range(k) {
+    if ranges::in_range(m, k) {
         if modes::is_asleep(k.activity) {
             return CoreOutcome {
                 reply: Reply::Refused(Refusal::Asleep), // 7 before 1

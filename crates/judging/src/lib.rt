@@ -46,6 +46,12 @@ struct Effects {
     service: Service,
 }
 
+// The state after a sample, and whether the sample ends a good frame.
+pub struct Sampled {
+    pub core: Core,
+    pub good: bool,
+}
+
 // ---- what a sample is
 
 // The model's own frame, for the line: it goes on, is another's once lost or answered, ends in an error, or ends well.
@@ -121,6 +127,17 @@ fn reception_judged(m: &[u8; 256], h: Hearing, r: Reception, v: u8) -> Reception
         return winner_taken(t, m);
     }
     t
+}
+
+fn ends_well(h: Hearing) -> bool
+    ensures { λ r. ⌜ r ≡ hearing_rule.endsWell h ⌝ }
+{
+    match h {
+        Hearing::Silent => false,
+        Hearing::Follows => false,
+        Hearing::Fault(_) => false,
+        Hearing::Good => true,
+    }
 }
 
 // ---- the ordinary slot: neither map nor registers change
@@ -435,9 +452,10 @@ fn judge(k: Core, v: u8) -> Judgement
 }
 
 // What a sample does: effects first, then line and frame, whose winner is read from the map that the effects leave.
-pub fn sample_judged(m: &mut [u8; 256], k: Core, v: u8) -> Core
+pub fn sample_judged(m: &mut [u8; 256], k: Core, v: u8) -> Sampled
     ensures map { λ r. ⌜ now (m .exit) ≡ ordinary.memoryAfter (now (m .entry)) k v ⌝ }
-    ensures core { λ r. ⌜ r ≡ ordinary.coreAfter (now (m .entry)) k v ⌝ }
+    ensures core { λ r. ⌜ r .core ≡ ordinary.coreAfter (now (m .entry)) k v ⌝ }
+    ensures good { λ r. ⌜ r .good ≡ hearing_rule.endsWell (rule.heard k (rule.verdict k v) v) ⌝ }
 {
     let j = judge(k, v);
     let x = j.role;
@@ -461,5 +479,8 @@ pub fn sample_judged(m: &mut [u8; 256], k: Core, v: u8) -> Core
     let here = reception_judged(m, h, k.reception, v);
     t.reception = here;
     t.reply = reply_after(x, m, k.reply, q, here);
-    t
+    Sampled {
+        core: t,
+        good: ends_well(h),
+    }
 }

@@ -4,6 +4,8 @@ ghost use mathlib.Core.Path.{_≡_};
 ghost use Prim.Native.Nat.{_<_};
 ghost use Rattle.rules.specs.Definitions.Registers as rule;
 ghost use Rattle.rules.specs.Definitions.Mailbox as memory;
+ghost use Rattle.diagnosis.specs.Control as diagnosis;
+ghost use Rattle.diagnosis.specs.Rules as wires;
 ghost use Rattle.registers.specs.Command as map;
 use rules::Flags;
 use rules::Report;
@@ -16,6 +18,7 @@ pub struct Command {
     pub idle: bool,
     pub activation: bool,
     pub rearbitration: bool,
+    pub pulse: bool,
 }
 
 // The register map: address, reset value and reserved bits of each control register, and the masks of its bits (000, Control and Status Registers).
@@ -51,6 +54,12 @@ impl Map {
 
     pub const DIAGNOSIS_CONTROL_RESERVED: u8 = 0;
 
+    pub const SDC0: u8 = 0b0001_0000;
+
+    pub const ETIP: u8 = 0b0000_0010;
+
+    pub const ESDC: u8 = 0b0000_0001;
+
     // Command: write only, no reset value. Its reserved bits must be zero.
     pub const COMMAND: usize = 0x03;
 
@@ -66,6 +75,8 @@ impl Map {
 
     pub const REAR: u8 = 0b0000_1000;
 
+    pub const MSDC: u8 = 0b0000_0001;
+
     // Line status: read only.
     pub const LINE_STATUS: usize = 0x04;
 
@@ -76,6 +87,12 @@ impl Map {
     pub const SPG: u8 = 0b0100_0000;
 
     pub const IDG: u8 = 0b0010_0000;
+
+    pub const SC: u8 = 0b0001_0000;
+
+    pub const SB: u8 = 0b0000_1000;
+
+    pub const SA: u8 = 0b0000_0100;
 
     pub const TXG: u8 = 0b0000_0010;
 
@@ -220,21 +237,49 @@ impl Map {
         control & Map::MT != 0
     }
 
-    // 0x02: the input that Ma and Mb, bits 3 and 2, select; automatic listens to RxD0.
-    fn selected_input(control: u8) -> u8
-        ensures { λ r. ⌜ r ≡ rule.selectedInput control ⌝ }
+    // 0x02: SDC[3:0].
+    pub fn rate(control: u8) -> u8
+        ensures { λ r. ⌜ r ≡ diagnosis.rate control ⌝ }
     {
-        let mode = control / 4 % 4;
-        if mode == 1 {
-            return 2;
-        }
-        if mode == 2 {
-            return 1;
-        }
-        0
+        control / Map::SDC0
     }
 
-    // 0x03: GRES, SLEEP, IDLE, ACTI, REAR.
+    // 0x02: the slots of an SDC period.
+    pub fn divider(control: u8) -> u32
+        ensures { λ r. ⌜ r ≡ diagnosis.divider control ⌝ }
+    {
+        64u32 << Map::rate(control)
+    }
+
+    // 0x02: Ma and Mb, bits 3 and 2.
+    pub fn selection(control: u8) -> u8
+        ensures { λ r. ⌜ r ≡ diagnosis.selection control ⌝ }
+    {
+        control / 4 % 4
+    }
+
+    // 0x02: Ma and Mb 11.
+    pub fn automatic(control: u8) -> bool
+        ensures { λ r. ⌜ r ≡ diagnosis.automatic control ⌝ }
+    {
+        Map::selection(control) == 3
+    }
+
+    // 0x02: ETIP.
+    pub fn compares_transmission(control: u8) -> bool
+        ensures { λ r. ⌜ r ≡ diagnosis.comparesTransmission control ⌝ }
+    {
+        control & Map::ETIP != 0
+    }
+
+    // 0x02: ESDC.
+    pub fn divider_runs(control: u8) -> bool
+        ensures { λ r. ⌜ r ≡ diagnosis.dividerRuns control ⌝ }
+    {
+        control & Map::ESDC != 0
+    }
+
+    // 0x03: GRES, SLEEP, IDLE, ACTI, REAR, MSDC.
     pub fn asked(command: u8) -> Command
         ensures { λ r. ⌜ r ≡ map.asked command ⌝ }
     {
@@ -244,6 +289,7 @@ impl Map {
             idle: command & Map::IDLE != 0,
             activation: command & Map::ACTI != 0,
             rearbitration: command & Map::REAR != 0,
+            pulse: command & Map::MSDC != 0,
         }
     }
 
@@ -342,16 +388,16 @@ impl Code {
 // ---- levels
 
 // The level of an input among RxD0 + 2 RxD1 + 4 RxD2.
-fn input_level(levels: u16, input: u8) -> u8
-    ensures { λ r. ⌜ r ≡ rule.inputLevel levels input ⌝ }
+pub fn input_level(levels: u8, input: u8) -> u8
+    ensures { λ r. ⌜ r ≡ wires.inputLevel levels input ⌝ }
 {
     if input == 1 {
-        return (levels / 2 % 2) as u8;
+        return levels / 2 % 2;
     }
     if input == 2 {
-        return (levels / 4 % 2) as u8;
+        return levels / 4 % 2;
     }
-    (levels % 2) as u8
+    levels % 2
 }
 
 // A level, inverted or not.
@@ -364,14 +410,14 @@ fn inverted(level: u8, inverts: bool) -> u8
     level
 }
 
-// The sample of a slot: the selected input after the receive inversion.
-pub fn sampled(control: u8, diagnosis: u8, levels: u16) -> u8
-    ensures { λ r. ⌜ r ≡ rule.sampled control diagnosis levels ⌝ }
+// The levels of the three inputs of a slot after the receive inversion.
+pub fn received(control: u8, levels: u16) -> u8
+    ensures { λ r. ⌜ r ≡ rule.received control levels ⌝ }
 {
-    inverted(
-        input_level(levels, Map::selected_input(diagnosis)),
-        Map::inverts_receive(control),
-    )
+    if Map::inverts_receive(control) {
+        return (7 - levels % 8) as u8;
+    }
+    (levels % 8) as u8
 }
 
 // TXD: the level after the transmit inversion.

@@ -10,6 +10,7 @@ use Rattle.line.specs.Frame.{byteBits, slots, size}
 use Rattle.rules.specs.Definitions.Registers.{either, bit, readOnly, resetValues, retrySetting}
 use Rattle.rules.specs.Definitions.Mailbox.{statusByte, rowsWritten, resetMemory}
 use Rattle.rules.specs.Definitions.Channels.{receiveMessage, requestDetection, transmitMessage, deferredReply, requestMessage, awaitsReply, immediateReply, lowest, matches}
+use Rattle.diagnosis.specs.Control.{rate, divider}
 use Rattle.rules.specs.Definitions.State.{ranges}
 use Rattle.rules.specs.Definitions.Slots.{drives}
 use Rattle.rules.specs.Definitions.Host.{lineStatusOf, resetAll, interruptLine}
@@ -40,7 +41,7 @@ pub frame-kept : drives (ran fresh (setUp ++ (ones 5 ++ (Write 0x10 0x02 ∷ (on
 unfolding ran lastAnswer setUp ones levels sent drives
 frame-kept = refl
 
-pub setting-kept : ran fresh (setUp ++ (ones 5 ++ (Write 0x01 0x03 ∷ (ones 7 ++ (Slot 1 ∷ []))))) .core .report .flags .te ≡ false
+pub setting-kept : ran fresh (setUp ++ (ones 5 ++ (Write 0x01 0x03 ∷ (ones 7 ++ (Slot 7 ∷ []))))) .core .report .flags .te ≡ false
 unfolding ran lastAnswer setUp ones
 setting-kept = refl
 
@@ -52,11 +53,11 @@ pub loss-no-error : ran fresh (setUp ++ (ones 12 ++ overdriven)) .core .service 
 unfolding ran lastAnswer setUp ones overdriven levels sent
 loss-no-error = refl
 
-pub third-error : ran fresh (setUp ++ (ones 12 ++ (Slot 1 ∷ (ones 12 ++ (Slot 1 ∷ (ones 12 ++ (Slot 1 ∷ []))))))) .core .report .flags .te ≡ true
+pub third-error : ran fresh (setUp ++ (ones 12 ++ (Slot 7 ∷ (ones 12 ++ (Slot 7 ∷ (ones 12 ++ (Slot 7 ∷ []))))))) .core .report .flags .te ≡ true
 unfolding ran lastAnswer setUp ones
 third-error = refl
 
-pub given-up : ran fresh (setUp ++ (ones 12 ++ (Slot 1 ∷ (ones 12 ++ (Slot 1 ∷ (ones 12 ++ (Slot 1 ∷ []))))))) .core .service .channel ≡ 1
+pub given-up : ran fresh (setUp ++ (ones 12 ++ (Slot 7 ∷ (ones 12 ++ (Slot 7 ∷ (ones 12 ++ (Slot 7 ∷ []))))))) .core .service .channel ≡ 1
 unfolding ran lastAnswer setUp ones
 given-up = refl
 
@@ -64,7 +65,7 @@ pub joined : drives (ran fresh (setUp ++ (Write 0x01 0x22 ∷ (ones 12 ++ levels
 unfolding ran lastAnswer setUp ones levels sent drives
 joined = refl
 
-pub aborted : getD (ran fresh (setUp ++ (ones 12 ++ (Slot 0 ∷ Slot 0 ∷ Slot 0 ∷ Write 0x13 0x0C ∷ Slot 1 ∷ []))) .memory) 0x13 0 ≡ 0x0E
+pub aborted : getD (ran fresh (setUp ++ (ones 12 ++ (Slot 0 ∷ Slot 0 ∷ Slot 0 ∷ Write 0x13 0x0C ∷ Slot 7 ∷ []))) .memory) 0x13 0 ≡ 0x0E
 unfolding ran lastAnswer setUp ones
 aborted = refl
 
@@ -88,7 +89,7 @@ pub four-are-enough : pin (setUp ++ (ones 12 ++ (levels (slots sent) ++ ones 4))
 unfolding lastAnswer ran pin setUp ones levels sent
 four-are-enough = refl
 
-pub unmatched-fault : sees (listening ++ (ones 12 ++ (Slot 0 ∷ Slot 1 ∷ []))) (0x07 ∷ 0x09 ∷ 0x1B ∷ []) ≡ 0x02 ∷ 0x80 ∷ 0x18 ∷ []
+pub unmatched-fault : sees (listening ++ (ones 12 ++ (Slot 0 ∷ Slot 7 ∷ []))) (0x07 ∷ 0x09 ∷ 0x1B ∷ []) ≡ 0x02 ∷ 0x80 ∷ 0x18 ∷ []
 unfolding lastAnswer ran sees reads listening ones
 unmatched-fault = refl
 
@@ -168,7 +169,7 @@ pub rearbitrated : sees (setUp ++ (ones 3 ++ (Write 0x03 0x08 ∷ []))) (0x04 �
 unfolding lastAnswer ran sees reads setUp ones
 rearbitrated = refl
 
-pub msdc : sees (setUp ++ (ones 3 ++ (Write 0x03 0x01 ∷ []))) (0x04 ∷ 0x13 ∷ []) ≡ 0x02 ∷ 0x08 ∷ []
+pub msdc : sees (setUp ++ (ones 3 ++ (Write 0x03 0x01 ∷ []))) (0x04 ∷ 0x13 ∷ []) ≡ 0x0E ∷ 0x08 ∷ []
 unfolding lastAnswer ran sees reads setUp ones
 msdc = refl
 
@@ -248,7 +249,7 @@ pub linked-data-sent : pin (Write 0x10 0xF2 ∷ Write 0x11 0x38 ∷ Write 0x12 0
 unfolding lastAnswer ran pin ones levels framed
 linked-data-sent = refl
 
-pub no-channel-14 : sees (Write 0x13 0x0A ∷ Write 0x1A 0x0E ∷ Write 0x03 0x10 ∷ Slot 1 ∷ []) (0x04 ∷ 0x05 ∷ []) ≡ 0x02 ∷ 0x02 ∷ []
+pub no-channel-14 : sees (Write 0x13 0x0A ∷ Write 0x1A 0x0E ∷ Write 0x03 0x10 ∷ Slot 7 ∷ []) (0x04 ∷ 0x05 ∷ []) ≡ 0x02 ∷ 0x02 ∷ []
 unfolding lastAnswer ran sees reads
 no-channel-14 = refl
 
@@ -324,8 +325,8 @@ pub out-of-range : lastAnswer (record { refused = 0; value = 0; next = beyond })
 unfolding lastAnswer beyond
 out-of-range = refl
 
-pub largest-values : largestOf (ranges (fresh .core)) ≡ 15 ∷ 13 ∷ 15 ∷ 13 ∷ 32 ∷ 12 ∷ 9 ∷ 67 ∷ 15 ∷ 13 ∷ 127 ∷ 31 ∷ 13 ∷ 30 ∷ 15 ∷ 359 ∷ 15 ∷ 13 ∷ 359 ∷ 30 ∷ []
-unfolding largestOf ranges size
+pub largest-values : largestOf (ranges 0x3F (fresh .core)) ≡ 15 ∷ 13 ∷ 15 ∷ 13 ∷ 32 ∷ 12 ∷ 9 ∷ 67 ∷ 15 ∷ 13 ∷ 127 ∷ 31 ∷ 13 ∷ 30 ∷ 15 ∷ 359 ∷ 15 ∷ 13 ∷ 359 ∷ 30 ∷ 7 ∷ 8 ∷ 511 ∷ 4 ∷ 4 ∷ 4 ∷ []
+unfolding largestOf ranges size divider rate
 largest-values = refl
 
 pub input-by-two-bits : pin (Write 0x02 0xFB ∷ (setUp ++ replicate 12 (Slot 2))) ≡ 0
@@ -464,6 +465,58 @@ pub overflow-leaves-none : drop 0x80 (ran fresh (heardBy (roomFor 2) (slots capt
 unfolding lastAnswer ran heardBy listening ones levels captured roomFor
 overflow-leaves-none = refl
 
+pub cut-data : sees (Write 0x02 0x0C ∷ Slot 2 ∷ Slot 7 ∷ Slot 2 ∷ Slot 7 ∷ []) (0x04 ∷ []) ≡ 0x34 ∷ []
+unfolding lastAnswer ran sees reads
+cut-data = refl
+
+pub cut-data-bar : sees (Write 0x02 0x0C ∷ Slot 4 ∷ Slot 7 ∷ Slot 4 ∷ Slot 7 ∷ []) (0x04 ∷ []) ≡ 0x38 ∷ []
+unfolding lastAnswer ran sees reads
+cut-data-bar = refl
+
+pub sample-before-edges : ran fresh (Write 0x02 0x0C ∷ Write 0x03 0x10 ∷ Slot 3 ∷ Write 0x02 0x1C ∷ Slot 7 ∷ Slot 3 ∷ Slot 7 ∷ Slot 3 ∷ []) .core .line .count ≡ 5
+unfolding ran lastAnswer
+sample-before-edges = refl
+
+pub sample-after-finding : ran fresh (Write 0x02 0x0C ∷ Write 0x03 0x10 ∷ Slot 3 ∷ Write 0x02 0x1C ∷ Slot 7 ∷ Slot 3 ∷ Slot 7 ∷ Slot 3 ∷ Slot 3 ∷ []) .core .line .count ≡ 0
+unfolding ran lastAnswer
+sample-after-finding = refl
+
+pub divider-changed : sees (Write 0x02 0x0C ∷ Slot 2 ∷ Slot 7 ∷ Slot 2 ∷ Write 0x02 0x1C ∷ Slot 7 ∷ []) (0x04 ∷ []) ≡ 0x30 ∷ []
+unfolding lastAnswer ran sees reads
+divider-changed = refl
+
+pub divider-kept : sees (Write 0x02 0x0C ∷ Slot 2 ∷ Slot 7 ∷ Slot 2 ∷ Write 0x02 0x00 ∷ Slot 7 ∷ []) (0x04 ∷ []) ≡ 0x34 ∷ []
+unfolding lastAnswer ran sees reads
+divider-kept = refl
+
+pub pulse-with-reset : sees (Write 0x03 0x81 ∷ []) (0x04 ∷ []) ≡ 0x20 ∷ []
+unfolding lastAnswer ran sees reads
+pulse-with-reset = refl
+
+pub pulse-with-sleep : lineStatusOf (ran fresh (Write 0x03 0x41 ∷ []) .core) ≡ 0x40
+unfolding lastAnswer ran
+pulse-with-sleep = refl
+
+pub asleep-uncounted : ran fresh (Write 0x03 0x40 ∷ Slot 0 ∷ []) .core .diagnosis .levels ≡ 7
+unfolding ran lastAnswer
+asleep-uncounted = refl
+
+pub refused-uncounted : ran fresh (Slot 8 ∷ []) .core .diagnosis .levels ≡ 7
+unfolding ran lastAnswer
+refused-uncounted = refl
+
+pub own-turn : (sees (Write 0x02 0x02 ∷ (setUp ++ (ones 12 ++ (Slot 2 ∷ Slot 2 ∷ Slot 2 ∷ [])))) (0x04 ∷ []) ≡ 0x13 ∷ []) × (sees (Write 0x02 0x02 ∷ (setUp ++ (ones 12 ++ (Slot 2 ∷ Slot 2 ∷ Slot 2 ∷ Slot 2 ∷ [])))) (0x04 ∷ []) ≡ 0x17 ∷ [])
+unfolding lastAnswer ran sees reads setUp ones
+own-turn = (refl, refl)
+
+pub no-return : sees (Write 0x03 0x10 ∷ Slot 6 ∷ (ones 12 ++ (Slot 0 ∷ Slot 7 ∷ []))) (0x04 ∷ 0x07 ∷ []) ≡ 0x10 ∷ 0x02 ∷ []
+unfolding lastAnswer ran sees reads ones
+no-return = refl
+
+pub inverted-levels : ran fresh (Write 0x00 0x01 ∷ Slot 2 ∷ []) .core .diagnosis .levels ≡ 5
+unfolding ran lastAnswer
+inverted-levels = refl
+
 pub courses : Courses
 courses =
     record {
@@ -575,4 +628,17 @@ courses =
       length-held = length-held;
       request-check-kept = request-check-kept;
       overflow-leaves-none = overflow-leaves-none;
+      cut-data = cut-data;
+      cut-data-bar = cut-data-bar;
+      sample-before-edges = sample-before-edges;
+      sample-after-finding = sample-after-finding;
+      divider-changed = divider-changed;
+      divider-kept = divider-kept;
+      pulse-with-reset = pulse-with-reset;
+      pulse-with-sleep = pulse-with-sleep;
+      asleep-uncounted = asleep-uncounted;
+      refused-uncounted = refused-uncounted;
+      own-turn = own-turn;
+      no-return = no-return;
+      inverted-levels = inverted-levels;
     }

@@ -12,6 +12,7 @@ use Rattle.rules.specs.Definitions.Attempt.{atStage, isServing, inServic
 use Rattle.rules.specs.Definitions.Service.{resting}
 use Rattle.rules.specs.Definitions.State.{isAsleep, isIdle, inMode, serving, resetCore}
 use Rattle.rules.specs.Definitions.Host.{resetAll, byteRead, statusRead, lineStatusOf}
+use Rattle.diagnosis.specs.Rules.{undiagnosed, faultOnData, faultOnDataBar}
 use Rattle.rules.specs.Statements.Claims.{ReadsAs}
 use Rattle.rules.specs.declared.Controller.{Controller}
 
@@ -49,7 +50,7 @@ module _ (m : List ℕ) (long : length m ≡ 256) where
       (let l = length-set m 0 0x00 in let k = length-set first 1 0x02 in let j = length-set second 2 0x00 in omega arith)
 
 pub reset-read : (c : Controller) → length (c .memory) ≡ 256 → ReadsAs (resetAll c) resetValues
-unfolding resetValues resetAll resetMemory rowsWritten byteRead readOnly statusRead lineStatusOf lineStatus retriesByte interruptStatus bit isAsleep isIdle inMode serving inService isServing atStage underWay isUnderWay atPlace resetCore resetReport resting quiet
+unfolding resetValues resetAll resetMemory rowsWritten byteRead readOnly statusRead lineStatusOf lineStatus retriesByte interruptStatus bit isAsleep isIdle inMode serving inService isServing atStage underWay isUnderWay atPlace resetCore resetReport resting quiet undiagnosed faultOnData faultOnDataBar
 reset-read c h = (at-0 (c .memory) h, (at-1 (c .memory) h, (at-2 (c .memory) h, (refl, (refl, (refl, (refl, (refl, (at-10 (c .memory) h, tt)))))))))
 
 -- channels and mailbox stay

@@ -1,5 +1,6 @@
 // The controller's state and answers: what the definitions in specs/ speak of; and the claims on them that have short proofs.
 ghost use Rattle.rules.specs.Statements.Claims as claims;
+use diagnosis::Diagnosis;
 
 // ---- registers (01, Memory map)
 
@@ -216,6 +217,7 @@ pub struct Core {
     pub reception: Reception,
     pub service: Service,
     pub reply: ImmediateReply,
+    pub diagnosis: Diagnosis,
 }
 
 pub struct Controller {

@@ -3,17 +3,13 @@ use Prim.Native.Nat.{ℕ}
 use mathlib.Core.Bool.{Bool, true, false, false≢true, not}
 use mathlib.Core.List.{List}
 use mathlib.Core.Path.{_≡_, refl, sym}
-use lib.ListN.{getD}
 use Rattle.line.specs.Bits.{pick}
 use Rattle.line.proofs.Laws.{pick-same}
-use Rattle.rules.specs.Definitions.Registers.{lineControl, transmitted}
 use Rattle.rules.specs.Definitions.Reception.{underWay, startEnded}
 use Rattle.rules.specs.Definitions.Attempt.{waits}
 use Rattle.rules.specs.Definitions.Service.{started, roleOf, receives}
 use Rattle.rules.specs.Definitions.State.{idleDue, isActive, serving}
 use Rattle.rules.specs.Definitions.Slots.{chooses, choiceMade, startMade, followsOn, drives, drivesAs}
-use Rattle.rules.specs.Definitions.Run.{accept, answered}
-use Rattle.rules.specs.Definitions.Answers.{controller}
 use Rattle.rules.specs.declared.Role.{Role}
 use Rattle.rules.specs.declared.Role.the-variants.{Nobody, Receiver, Sender, Asker, Replier}
 use Rattle.rules.specs.declared.Core.{Core}
@@ -68,10 +64,6 @@ driven-as Sender k = refl
 driven-as Asker k = refl
 driven-as Replier k = refl
 
-driven-is : (k : Core) → driven (k .service .effort .progress) (k .reception) (k .service .effort .frame) (k .reply) ≡ drives k
+pub driven-is : (k : Core) → driven (k .service .effort .progress) (k .reception) (k .service .effort .frame) (k .reply) ≡ drives k
 unfolding driven drives
 driven-is k = driven-as (roleOf (k .service .effort .progress) (k .reply .going) (k .reception .place)) k
-
-pub answered-is : (m : List ℕ) (k : Core) (level : ℕ) → level ≡ driven (k .service .effort .progress) (k .reception) (k .service .effort .frame) (k .reply) → accept (transmitted (getD m lineControl 0) level) (controller m k) ≡ answered (controller m k)
-unfolding answered
-answered-is m k level is = rw (is, driven-is k)

@@ -1,4 +1,5 @@
-// A slot of the controller over a lent memory map: the sample is judged with its effects; then a waiting idle, the choice, the start, the answer (01, Receiving and Sending; 02, Req 01).
+// A slot of the controller over a lent memory map: the sample is judged with its effects; then a waiting idle, the choice, the start, the answer; then the diagnosis (01, Receiving and
+// Sending; 02, Req 01 and Req 05).
 ghost use mathlib.Core.Path.{_≡_};
 ghost use lib.ListN.{getD};
 ghost use Rattle.rules.specs.Definitions.Registers as registers_rule;
@@ -114,21 +115,64 @@ fn drives(p: Progress, here: Reception, frame: Coded, y: ImmediateReply) -> u8
 
 // ---- the slot
 
-fn sampled_slot(m: &mut [u8; 256], k: Core, v: u8) -> Core
-    ensures { λ r. ⌜ answers.controller (now (m .exit)) r ≡ rule.sampledSlot (answers.controller (now (m .entry)) k) v ⌝ }
-{
-    let t = judging::sample_judged(m, k, v);
-    follows_on(m, t)
+// What a slot does but for the diagnosis; the level for the next slot; whether the model's own frame turns from dominant to recessive, and whether a good frame ends.
+struct Motion {
+    core: Core,
+    level: u8,
+    turns: bool,
+    good: bool,
 }
 
-fn active_slot(m: &mut [u8; 256], k: Core, levels: u16) -> Core
-    ensures { λ r. ⌜ answers.controller (now (m .exit)) r ≡ rule.activeSlot (answers.controller (now (m .entry)) k) levels ⌝ }
+// Whether the model drives a dominant level of a frame of its own; asked only where ETIP is set.
+fn own_dominant(control: u8, p: Progress, here: Reception, frame: Coded, y: ImmediateReply) -> bool
+    ensures { λ r. ⌜ r ≡ follow.ownDominant control p here frame y ⌝ }
 {
-    let v = registers::sampled(m[Map::LINE_CONTROL], m[Map::DIAGNOSIS_CONTROL], levels);
-    if v == 0 {
-        return sampled_slot(m, k, 0);
+    if Map::compares_transmission(control) {
+        let role = place::role_of(p, y.going, here.place);
+        return own_level(role, p, frame, y) == 0;
     }
-    sampled_slot(m, k, 1)
+    false
+}
+
+fn active_slot(m: &mut [u8; 256], k: Core, control: u8, v: u8) -> Motion
+    ensures state { λ r. ⌜ answers.controller (now (m .exit)) (r .core) ≡ rule.sampledSlot (answers.controller (now (m .entry)) k) v ⌝ }
+    ensures level { λ r. ⌜ r .level ≡ rule.drives (r .core) ⌝ }
+    ensures turns { λ r. ⌜ r .turns ≡ follow.turning control k (r .core) ⌝ }
+    ensures good { λ r. ⌜ r .good ≡ rule.ended (answers.controller (now (m .entry)) k) v ⌝ }
+{
+    let p = k.service.effort.progress;
+    let frame = k.service.effort.frame;
+    let own = own_dominant(control, p, k.reception, frame, k.reply);
+    let s = judging::sample_judged(m, k, v);
+    let t = follows_on(m, s.core);
+    let next = t.service.effort.progress;
+    let here = t.reception;
+    let sent = t.service.effort.frame;
+    let level = drives(next, here, sent, t.reply);
+    Motion {
+        core: t,
+        level,
+        turns: own & (level == 1),
+        good: s.good,
+    }
+}
+
+// Idle: nothing moves, and the level is recessive.
+fn moved(m: &mut [u8; 256], k: Core, control: u8, v: u8) -> Motion
+    ensures state { λ r. ⌜ answers.controller (now (m .exit)) (r .core) ≡ follow.movedSlot (answers.controller (now (m .entry)) k) v ⌝ }
+    ensures level { λ r. ⌜ r .level ≡ follow.movedLevel k (r .core) ⌝ }
+    ensures turns { λ r. ⌜ r .turns ≡ follow.movedTurns control k (r .core) ⌝ }
+    ensures good { λ r. ⌜ r .good ≡ follow.movedGood (answers.controller (now (m .entry)) k) v ⌝ }
+{
+    if modes::is_active(k.activity) {
+        return active_slot(m, k, control, v);
+    }
+    Motion {
+        core: k,
+        level: 1,
+        turns: false,
+        good: false,
+    }
 }
 
 // TXD after the transmit inversion.
@@ -141,25 +185,35 @@ fn answered(m: &[u8; 256], k: Core, level: u8) -> CoreOutcome
     }
 }
 
+// Idle or active: the sample of the input selected as the slot begins; then the diagnosis counts the slot's edges.
+fn awake_slot(m: &mut [u8; 256], k: Core, levels: u16) -> CoreOutcome
+    ensures { λ r. ⌜ answers.answerLent r (now (m .exit)) ≡ follow.awakeSlot (answers.controller (now (m .entry)) k) levels ⌝ }
+{
+    let control = m[Map::DIAGNOSIS_CONTROL];
+    let three = registers::received(m[Map::LINE_CONTROL], levels);
+    let x = k.diagnosis;
+    let v = registers::input_level(three, diagnosing::connected(control, x));
+    let w = moved(m, k, control, v);
+    let mut t = w.core;
+    t.diagnosis = diagnosing::diagnosed(control, three, w.turns, w.good, x);
+    answered(m, t, w.level)
+}
+
 // A slot: 6, 5; idle and asleep give recessive.
 pub fn slot_on(m: &mut [u8; 256], k: Core, levels: u16) -> CoreOutcome
     ensures { λ r. ⌜ answers.answerLent r (now (m .exit)) ≡ run.slot (answers.controller (now (m .entry)) k) levels ⌝ }
 {
-    if ranges::in_range(k) {
+    if ranges::in_range(m, k) {
         if 7 < levels {
             return CoreOutcome {
                 reply: Reply::Refused(Refusal::Levels),
                 next: k,
             };
         }
-        if modes::is_active(k.activity) {
-            let t = active_slot(m, k, levels);
-            let p = t.service.effort.progress;
-            let here = t.reception;
-            let frame = t.service.effort.frame;
-            return answered(m, t, drives(p, here, frame, t.reply));
+        if modes::is_asleep(k.activity) {
+            return answered(m, k, 1);
         }
-        return answered(m, k, 1);
+        return awake_slot(m, k, levels);
     }
     CoreOutcome {
         reply: Reply::Refused(Refusal::Range),

@@ -39,6 +39,7 @@ pub fn reset_core() -> Core
         reception: reception::quiet(),
         service: ending::resting(),
         reply: no_reply(),
+        diagnosis: diagnosing::undiagnosed(),
     }
 }
 

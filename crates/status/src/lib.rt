@@ -3,6 +3,7 @@ ghost use mathlib.Core.Path.{_≡_};
 ghost use Prim.Native.Nat.{_≤_};
 ghost use Rattle.rules.specs.Definitions.Registers as rule;
 ghost use Rattle.rules.specs.Definitions.Host as host_rule;
+use diagnosis::Diagnosis;
 use registers::Map;
 use rules::Controller;
 use rules::Flags;
@@ -20,10 +21,17 @@ fn bit(flag: bool) -> u8
 }
 
 // The byte of 0x04.
-pub fn line_status(asleep: bool, idle: bool, txg: bool, rxg: bool) -> u8
-    ensures { λ r. ⌜ r ≡ rule.lineStatus asleep idle txg rxg ⌝ }
+pub fn line_status(asleep: bool, idle: bool, x: Diagnosis, txg: bool, rxg: bool) -> u8
+    ensures { λ r. ⌜ r ≡ rule.lineStatus asleep idle x txg rxg ⌝ }
 {
-    bit(asleep) * Map::SPG + bit(idle) * Map::IDG + bit(txg) * Map::TXG + bit(rxg) * Map::RXG
+    let c = x.condition;
+    bit(asleep) * Map::SPG
+        + bit(idle) * Map::IDG
+        + bit(x.sc) * Map::SC
+        + bit(diagnosing::fault_on_data_bar(c)) * Map::SB
+        + bit(diagnosing::fault_on_data(c)) * Map::SA
+        + bit(txg) * Map::TXG
+        + bit(rxg) * Map::RXG
 }
 
 // The byte of 0x05 and of 0x06.

@@ -1,5 +1,6 @@
 use Rattle.codec.proofs.Rooms.{encode-room, decode-room}
-use Rattle.every_run.proofs.Ranges.Reach.{refused-same, refused-value, never-six, never-refused-six}
+use Rattle.every_run.proofs.Ranges.Reach.{refused-same, refused-value}
+use Rattle.every_run.proofs.Ranges.Counting.{never-six, never-refused-six}
 use Rattle.claims.proofs.RefusalNumbers.{reset-number, write-number, read-number, slot-number}
 use Rattle.claims.specs.Claims.{Refusals}
 use Rattle.claims.proofs.refusal_claims.Statement.{statement}

@@ -14,4 +14,5 @@ byte-written-spec =
     (λ c κs. tt)
     (λ c κs. tt)
     (λ c κs. tt)
-    (λ c. simp (← (c .stopped-core .ensures), ← (c .before .end-memory .ensures), ← (c .before .before .stopped .ensures), ← (c .before .before .before .before .keep-byte .ensures), ← (c .before .before .before .before .before .before .core-written .ensures), ← (c .before .before .before .before .before .before .before .service-asked .ensures))))
+    (λ c κs. tt)
+    (λ c. simp (← (c .stopped-core .ensures), ← (c .before .end-memory .ensures), ← (c .before .before .stopped .ensures), ← (c .before .before .before .before .keep-byte .ensures), ← (c .before .before .before .before .before .before .diagnosis-written .ensures), ← (c .before .before .before .before .before .before .before .before .core-written .ensures), ← (c .before .before .before .before .before .before .before .before .before .service-asked .ensures))))

@@ -19,7 +19,7 @@ use Rattle.rules.specs.Definitions.Reception.{underWay, unsettled}
 use Rattle.rules.specs.Definitions.Hearing.{hearIn, hearFrame}
 use Rattle.rules.specs.Definitions.Delivery.{delivered, deliveryTo, deliveryOf}
 use Rattle.rules.specs.Definitions.Attempt.{largest, moreAttempts, atStage, betweenAttempts, isBetween, isAnswered, isAnswering, slotSpent, lostSpent, errorSpent, advance, exhausted}
-use Rattle.rules.specs.Definitions.Service.{stopped, endingOf, settled, reportEnded, fulfils}
+use Rattle.rules.specs.Definitions.Service.{stopped, endingOf, settled, reportEnded, fulfils, ownFrame}
 use Rattle.rules.specs.Definitions.State.{isActive, inMode, resetCore, slept, idleAsked, activated}
 use Rattle.rules.specs.Definitions.Slots.{roleIn, replyVerdict, heardAs, heard, delivers, verdictAs, verdict, serviceJudged, ending, reportAfter, memoryJudged, coreJudged, sampleOf, judgedSlot, sampledSlot, activeSlot}
 use Rattle.rules.specs.Definitions.Host.{resetAll, resets, sleeps, modeCommanded, flagsCleared, coreWritten, serviceAsked, stoppedCore, byteWritten, hostWritten}
@@ -35,14 +35,14 @@ use Rattle.every_run.proofs.Sending.Follow.{idle-report, isExhausted, t
 use Rattle.every_run.proofs.Observer.Flags.{endedFlags, flags-ended, flags-follow, ended-same, isSent, isDone, isFailed, ended-tok, ended-te, raised-by, after-rst, after-tok, after-re, after-rok, after-rnok}
 use Rattle.every_run.specs.Observer.{isStored, accepted}
 use Rattle.every_run.proofs.Steps as steps
-use Rattle.every_run.proofs.Steps.{Step, step-of, refused-next, refused-not, accepted-next}
+use Rattle.every_run.proofs.Steps.{Step, step-of, withDiagnosisC, rested-next, refused-next, refused-not, accepted-next}
 use Rattle.every_run.specs.OwnFrames.{verdictIn, replyVerdictIn}
 use Rattle.every_run.specs.Settled.{marksCher}
 use Rattle.every_run.proofs.Sending.Demand3.{never-fulfils}
 use Rattle.every_run.proofs.Roles.{quiet-phase, RoleIs, sends, asks, replying, receives, rests, role-is}
 use Rattle.every_run.proofs.OwnFrames.Steady.{effort-asked}
 use Rattle.every_run.proofs.OwnFrames.EveryRun.{slot-sampled}
-use Rattle.every_run.specs.Interrupts.{flagsOf, Sampled, ownFrame, Received, hearingIn, fittingIn, rak, IsReset, by-pin, by-command, Exhausts, exhausts, LastError, last, Completes, completes, replied, Spoils, fault, overflow, broken, Stores, stores, Raised, Interrupts}
+use Rattle.every_run.specs.Interrupts.{flagsOf, Sampled, Received, hearingIn, fittingIn, rak, IsReset, by-pin, by-command, Exhausts, exhausts, LastError, last, Completes, completes, replied, Spoils, fault, overflow, broken, Stores, stores, Raised, Interrupts}
 use Rattle.every_run.proofs.Interrupts.Line as line
 use Rattle.rules.specs.declared.Flags.{Flags}
 use Rattle.rules.specs.declared.Report.{Report}
@@ -193,6 +193,9 @@ module _ (g : Flags → Bool) (c : Controller) (Cause : Event → Type 0)
       same : (e : Event) → next c e ≡ c → g (flagsOf (next c e)) ≡ true → Cause e
       same e n h = clash b (sym (ap (λ (x : Controller). g (flagsOf x)) n) ∙ h)
 
+      same-flags : (e : Event) → flagsOf (next c e) ≡ flagsOf c → g (flagsOf (next c e)) ≡ true → Cause e
+      same-flags e n h = clash b (sym (ap g n) ∙ h)
+
       go : (e : Event) → Step c e → g (flagsOf (next c e)) ≡ true → Cause e
       go e (steps.refusal n h) i = same e (refused-next c none e n h) i
       go Reset (steps.reset h) i =
@@ -205,11 +208,10 @@ module _ (g : Flags → Bool) (c : Controller) (Cause : Event → Type 0)
       go (Read a) (steps.gave value h) i = same (Read a) (accepted-next c none (Read a) value c h) i
       go (Slot l) (steps.went a h) i =
           let s : Sampled c l = record { taken = unfold answered in accepted-so c (Slot l) _ (activeSlot c l) h; active = a } in
-          let n : next c (Slot l) ≡ sampledSlot c (sampleOf c l) = slot-sampled c l (s .taken) a in
+          let n : next c (Slot l) ≡ withDiagnosisC (sampledSlot c (sampleOf c l)) (activeSlot c l .core .diagnosis) = slot-sampled c l (s .taken) a in
           at-slot l s b (sym (ap (λ (x : Controller). g (flagsOf x)) n) ∙ i)
       go (Slot l) (steps.rested a h) i =
-          let n : next c (Slot l) ≡ c = unfold restedSlot in accepted-next c none (Slot l) _ c h in
-          same (Slot l) n i
+          same-flags (Slot l) (ap flagsOf (rested-next c none l h)) i
 
 -- ---- a write ends no service but an aborted or rearbitrated one
 

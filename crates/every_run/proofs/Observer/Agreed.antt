@@ -7,36 +7,38 @@ use mathlib.Core.Path.{_≡_, refl, ap, _∙_, sym, subst}
 use native.Mathlib.Omega.{arith}
 use borrow.Author.Tests.{le-leb, lt-leb, leb-true, leb-false, ltb-true, ltb-false, eqb-true, eqb-false}
 use lib.Dec.{eqb, ltb, leb}
-use lib.ListN.{length}
+use lib.ListN.{length, getD}
 use Rattle.line.specs.Bits.{pick, Below}
-use Rattle.rules.specs.Definitions.Setters.{withActivity, withReport, withLine, withService}
+use Rattle.diagnosis.specs.Rules.{diagnosed}
+use Rattle.diagnosis.specs.declared.Diagnosis.{Diagnosis}
+use Rattle.rules.specs.Definitions.Setters.{withActivity, withReport, withLine, withService, withDiagnosis}
 use Rattle.rules.specs.Definitions.Longest.{longestOf}
-use Rattle.rules.specs.Definitions.Registers.{both, either, command, interruptReset, asksIdle, asksActivation}
+use Rattle.rules.specs.Definitions.Registers.{both, either, diagnosisControl, command, interruptReset, asksIdle, asksActivation}
 use Rattle.rules.specs.Definitions.Mailbox.{coded}
 use Rattle.rules.specs.Definitions.Reception.{unsettled, afterGood, free, takesStart, counted, atPlace, quiet, isUnderWay, underWay}
-use Rattle.rules.specs.Definitions.Hearing.{lineAfter, hearFrame, hearQuiet, receiverIn, receiverLevel}
+use Rattle.rules.specs.Definitions.Hearing.{lineAfter, hearFrame, hearQuiet, endsWell, receiverIn, receiverLevel}
 use Rattle.rules.specs.Definitions.Attempt.{atStage, inService, isServing, drivesFrame, isDriving, isAnswered, isAnswering, levelAt, judgeSlot}
-use Rattle.rules.specs.Definitions.Service.{resting, stopped, settled, reportEnded, hearOwn}
-use Rattle.rules.specs.Definitions.State.{isActive, inMode, serving, resetCore, idled, idleDue, slept, idleAsked, activated}
+use Rattle.rules.specs.Definitions.Service.{ownFrame, resting, stopped, settled, reportEnded, hearOwn}
+use Rattle.rules.specs.Definitions.State.{isActive, isAsleep, inMode, serving, resetCore, idled, idleDue, slept, idleAsked, activated}
 use Rattle.rules.specs.Definitions.Slots as slot-rule
-use Rattle.rules.specs.Definitions.Slots.{roleIn, replyVerdict, heard, receptionJudged, replyAfter, coreJudged, followsOn, drivesAs, drives, sampleOf, judgedSlot, sampledSlot, activeSlot}
-use Rattle.rules.specs.Definitions.Host.{resetAll, resets, sleeps, modeCommanded, flagsCleared, coreWritten, serviceAsked, stoppedCore, byteWritten, hostWritten}
+use Rattle.rules.specs.Definitions.Slots.{roleIn, replyVerdict, heard, receptionJudged, replyAfter, coreJudged, followsOn, drivesAs, drives, levelsOf, sampleOf, judgedSlot, sampledSlot, turns, diagnosisAfter, diagnosedSlot, activeSlot, restingSlot}
+use Rattle.rules.specs.Definitions.Host.{resetAll, resets, sleeps, modeCommanded, flagsCleared, coreWritten, serviceAsked, stoppedCore, diagnosisWritten, byteWritten, hostWritten}
 use Rattle.rules.specs.Definitions.Run as run
 use Rattle.rules.specs.Definitions.Run.{fresh, accept, restedSlot, step, next}
 use Rattle.every_run.specs.Tally.{Stand, away, between, opening, inside, answered, Tally, none, Answering, verdict, countedT, endedIn, endedT, chooseIn, chooseT, startIn, startT, askedIn, askedT, isAway}
 use Rattle.every_run.specs.Observer as observer
-use Rattle.every_run.specs.Observer.{Past, recessive, freeO, startsO, anew, Replying, silent, replies, Observer, withActivityO, withLineO, withFrameO, withTallyO, withReplyO, atReset, codeT, hearsOwn, hearsOther, hearsApart, hearsIn, hearsO, answerIn, answerO, fulfilledT, fulfilledO, isReplying, replyIn, lineO, sampledO, idleO, goesOnO, activatedO, idleAskedO, commandedO, writtenO, nextO}
+use Rattle.every_run.specs.Observer.{Past, recessive, freeO, startsO, anew, Replying, silent, replies, Observer, withActivityO, withLineO, withFrameO, withTallyO, withReplyO, withDiagnosisO, atReset, codeT, hearsOwn, hearsOther, hearsApart, hearsIn, hearsO, answerIn, answerO, fulfilledT, fulfilledO, isReplying, ownIn, turnsO, endedO, diagnosisO, replyIn, lineO, sampledO, idleO, goesOnO, activatedO, idleAskedO, commandedO, writtenO, nextO}
 use Rattle.every_run.specs.Sending.{levelApart, levelIn, levelO, roleApart, roleAs, Counted, Agrees}
 use Rattle.rules.proofs.Logic.{left}
 use Rattle.every_run.proofs.Roles.{quiet-phase, role-sender, role-asker, role-other, heard-nobody, heard-receiver, heard-sender, heard-asker, heard-replier}
-use Rattle.every_run.proofs.Steps.{Step, refusal, reset, wrote, gave, went, rested, step-of, refused-next, refused-not, accepted-next, accepted-so, accepted-tally}
+use Rattle.every_run.proofs.Steps.{Step, refusal, reset, wrote, gave, went, rested, withDiagnosisC, step-of, went-next, rested-next, refused-next, refused-not, accepted-next, accepted-so, accepted-tally}
 use Rattle.every_run.proofs.Sending.Beside as beside
 use Rattle.every_run.proofs.Sending.Beside.{answerC, afterSlot, endedC, nextT}
 use Rattle.every_run.proofs.Sending.Join.{countersOf, made, serviceIn, serviceOf, drivenIn, attempting, JudgedIn}
 use Rattle.every_run.proofs.Sending.Follow.{follows-activity, follows-line, follows-reception, follows-reply}
 use Rattle.every_run.proofs.Sending.Bound as bound
 use Rattle.every_run.proofs.Sending.Bound.{Coming}
-use Rattle.every_run.proofs.Sending.Demand3.{Joined, joined-fresh, joined-next, driven-is, level-is, is-judged, sampled-service, settled-asked}
+use Rattle.every_run.proofs.Sending.Demand3.{Joined, after-beside, joined-fresh, joined-next, driven-is, level-is, is-judged, sampled-service, settled-asked}
 use Rattle.every_run.proofs.Ranges.Limits.{Fine}
 use Rattle.every_run.proofs.Ranges.Reception.{Received, judged-received}
 use Rattle.every_run.proofs.Ranges.Reach.{fine-next}
@@ -51,7 +53,10 @@ use Rattle.rules.specs.declared.Stage.the-variants.{Opening, Sending}
 use Rattle.rules.specs.declared.Service.{Service}
 use Rattle.rules.specs.declared.ImmediateReply.{ImmediateReply}
 use Rattle.rules.specs.declared.Verdict.{Verdict}
-use Rattle.rules.specs.declared.Role.the-variants.{Nobody, Receiver}
+use Rattle.rules.specs.declared.Place.{Place}
+use Rattle.rules.specs.declared.Role.{Role}
+use Rattle.rules.specs.declared.Role.the-variants.{Nobody, Receiver, Sender, Asker, Replier}
+use Rattle.rules.specs.declared.Mode.{Mode}
 use Rattle.rules.specs.declared.Mode.the-variants.{Idle, Active, Asleep}
 use Rattle.rules.specs.declared.Activity.{Activity}
 use Rattle.rules.specs.declared.Core.{Core}
@@ -259,6 +264,14 @@ pub record Same (c : Controller) (o : Observer) : Type 0 where
   pub core : SameCore (c .core) o
   pub joined : Joined c (o .tally)
   pub rested : Rested o
+  pub diagnosis : c .core .diagnosis ≡ o .diagnosis
+
+-- neither looks at the diagnosis
+same-beside : (k : Core) (o : Observer) (x y : Diagnosis) → SameCore k o → SameCore (withDiagnosis k x) (withDiagnosisO o y)
+same-beside k o x y i = record { activity = i .activity; line = i .line; frame = i .frame; reply = i .reply }
+
+rested-beside : (o : Observer) (y : Diagnosis) → Rested o → Rested (withDiagnosisO o y)
+rested-beside o y r h = let q = r h in record { none-serves = q .none-serves; none-comes = q .none-comes; none-replies = q .none-replies }
 
 quiet-apart : underWay (quiet .place) ≡ false
 unfolding quiet atPlace underWay isUnderWay
@@ -332,9 +345,9 @@ away-ended t a v e = go (t .stand) refl e
     go (inside start levels) h i = absurd (false≢true (unfold isAway in i))
     go (answered start n) h i = absurd (false≢true (unfold isAway in i))
 
-wrote-rested : (o : Observer) (a v : ℕ) → Rested o → Rested (writtenO o a v)
+wrote-rested : (m : List ℕ) (o : Observer) (a v : ℕ) → Rested o → Rested (writtenO m o a v)
 unfolding writtenO
-wrote-rested o a v r = go (resets a v) (sleeps a v)
+wrote-rested m o a v r = go (resets a v) (sleeps a v)
   where
     -- a command that leaves the controller idle or asleep found it so
     same-mode : isActive (commandedO o a v .activity .mode) ≡ false → isActive (o .activity .mode) ≡ false
@@ -351,10 +364,10 @@ wrote-rested o a v r = go (resets a v) (sleeps a v)
     byte : Rested (withTallyO (commandedO o a v) (endedT (askedT (o .tally) a v)))
     byte h = record { none-serves = away-ended (o .tally) a v (r (same-mode h) .none-serves); none-comes = commanded-rested o a v r h .none-comes; none-replies = commanded-rested o a v r h .none-replies }
 
-    go : (x y : Bool) → Rested (pick x atReset (pick y (withReplyO (withTallyO (withFrameO (withActivityO o (inMode Asleep false)) quiet) none) silent) (idleO (withTallyO (commandedO o a v) (endedT (askedT (o .tally) a v))))))
+    go : (x y : Bool) → Rested (pick x atReset (pick y (withReplyO (withTallyO (withFrameO (withActivityO o (inMode Asleep false)) quiet) none) silent) (withDiagnosisO (idleO (withTallyO (commandedO o a v) (endedT (askedT (o .tally) a v)))) (diagnosisWritten m (o .diagnosis) a v))))
     go true y = reset-rested
     go false true = λ h. record { none-serves = unfold none isAway in refl; none-comes = quiet-apart; none-replies = unfold isReplying in refl }
-    go false false = idle-rested (withTallyO (commandedO o a v) (endedT (askedT (o .tally) a v))) byte
+    go false false = rested-beside _ _ (idle-rested (withTallyO (commandedO o a v) (endedT (askedT (o .tally) a v))) byte)
 
 slot-rested : (o : Observer) (longest d v : ℕ) (m : List ℕ) → isActive (o .activity .mode) ≡ true → Rested (idleO (sampledO o longest d v m))
 unfolding sampledO
@@ -362,34 +375,45 @@ slot-rested o longest d v m a = idle-rested _ (λ h. absurd (false≢true (sym h
 
 -- mode, line and frame after a host write
 module _ (c : Controller) (o : Observer) (s : Same c o) (a v : ℕ) where
-  byte-same : SameCore (byteWritten c a v .core) (idleO (withTallyO (commandedO o a v) (endedT (askedT (o .tally) a v))))
+  byte-same : SameCore (byteWritten c a v .core) (withDiagnosisO (idleO (withTallyO (commandedO o a v) (endedT (askedT (o .tally) a v)))) (diagnosisWritten (c .memory) (o .diagnosis) a v))
   unfolding byteWritten stoppedCore
   byte-same =
       let x : Service = serviceAsked (c .core .service) a v in
       let k : Core = coreWritten (c .core) a v in
       let i = commanded-same (c .core) o (s .core) a v in
-      idle-same (withService (withReport k (reportEnded (stopped x) (k .report) x)) (settled (stopped x) x)) (withTallyO (commandedO o a v) (endedT (askedT (o .tally) a v)))
-      (record { activity = i .activity; line = i .line; frame = i .frame; reply = i .reply }) (serving-is _ (endedT (askedT (o .tally) a v)) (settled-asked c (o .tally) (s .joined) a v))
+      same-beside _ _ _ _
+      (idle-same (withService (withReport k (reportEnded (stopped x) (k .report) x)) (settled (stopped x) x)) (withTallyO (commandedO o a v) (endedT (askedT (o .tally) a v)))
+      (record { activity = i .activity; line = i .line; frame = i .frame; reply = i .reply }) (serving-is _ (endedT (askedT (o .tally) a v)) (settled-asked c (o .tally) (s .joined) a v)))
 
-  wrote-core : SameCore (hostWritten c a v .core) (writtenO o a v)
+  wrote-core : SameCore (hostWritten c a v .core) (writtenO (c .memory) o a v)
   unfolding hostWritten writtenO
   wrote-core = go (resets a v) (sleeps a v)
     where
       go : (x y : Bool) → SameCore (pick x (resetAll c) (pick y (record { memory = c .memory; core = slept (c .core) }) (byteWritten c a v)) .core)
-          (pick x atReset (pick y (withReplyO (withTallyO (withFrameO (withActivityO o (inMode Asleep false)) quiet) none) silent) (idleO (withTallyO (commandedO o a v) (endedT (askedT (o .tally) a v))))))
+          (pick x atReset (pick y (withReplyO (withTallyO (withFrameO (withActivityO o (inMode Asleep false)) quiet) none) silent) (withDiagnosisO (idleO (withTallyO (commandedO o a v) (endedT (askedT (o .tally) a v)))) (diagnosisWritten (c .memory) (o .diagnosis) a v))))
       go true y = unfold resetAll resetCore atReset unsettled in record { activity = refl; line = line-anew false; frame = refl; reply = no-reply }
       go false true = unfold slept in record { activity = refl; line = s .core .line; frame = refl; reply = no-reply }
       go false false = byte-same
 
-  wrote-tally : pick (resets a v) none (pick (sleeps a v) none (endedT (askedT (o .tally) a v))) ≡ writtenO o a v .tally
+  wrote-tally : pick (resets a v) none (pick (sleeps a v) none (endedT (askedT (o .tally) a v))) ≡ writtenO (c .memory) o a v .tally
   unfolding writtenO
   wrote-tally = go (resets a v) (sleeps a v)
     where
       go : (x y : Bool) → pick x none (pick y none (endedT (askedT (o .tally) a v)))
-          ≡ pick x atReset (pick y (withReplyO (withTallyO (withFrameO (withActivityO o (inMode Asleep false)) quiet) none) silent) (idleO (withTallyO (commandedO o a v) (endedT (askedT (o .tally) a v))))) .tally
+          ≡ pick x atReset (pick y (withReplyO (withTallyO (withFrameO (withActivityO o (inMode Asleep false)) quiet) none) silent) (withDiagnosisO (idleO (withTallyO (commandedO o a v) (endedT (askedT (o .tally) a v)))) (diagnosisWritten (c .memory) (o .diagnosis) a v))) .tally
       go true y = unfold atReset in refl
       go false true = refl
       go false false = sym (idle-tally (withTallyO (commandedO o a v) (endedT (askedT (o .tally) a v))))
+
+  wrote-diagnosis : hostWritten c a v .core .diagnosis ≡ writtenO (c .memory) o a v .diagnosis
+  unfolding hostWritten writtenO
+  wrote-diagnosis = go (resets a v) (sleeps a v)
+    where
+      go : (x y : Bool) → pick x (resetAll c) (pick y (record { memory = c .memory; core = slept (c .core) }) (byteWritten c a v)) .core .diagnosis
+          ≡ pick x atReset (pick y (withReplyO (withTallyO (withFrameO (withActivityO o (inMode Asleep false)) quiet) none) silent) (withDiagnosisO (idleO (withTallyO (commandedO o a v) (endedT (askedT (o .tally) a v)))) (diagnosisWritten (c .memory) (o .diagnosis) a v))) .diagnosis
+      go true y = unfold resetAll resetCore atReset in refl
+      go false true = unfold slept in (s .diagnosis)
+      go false false = unfold byteWritten in ap (λ (x : Diagnosis). diagnosisWritten (c .memory) x a v) (s .diagnosis)
 
 -- the state once a sample and its effects are taken
 unfoldable pub judgedCore : Controller → ℕ → Core
@@ -469,98 +493,6 @@ module _ (c : Controller) (o : Observer) (s : Same c o) (f : Fine c) (v : ℕ) (
 goes-on-same : (k : Core) (o : Observer) (longest : ℕ) (m : List ℕ) → SameCore k o → SameCore k (goesOnO o longest m)
 unfolding goesOnO
 goes-on-same k o longest m i = record { activity = i .activity; line = i .line; frame = i .frame; reply = i .reply }
-
--- ---- every event
-
--- controller and observer still belong together, and the observer's tally is the one stepped beside the controller
-pub record Followed (c : Controller) (o : Observer) (e : Event) : Type 0 where
-  pub same : Same (next c e) (nextO c o e)
-  pub tally : nextT c (o .tally) e ≡ nextO c o e .tally
-
--- y: an answer that comes is not at its longest
-module _ (c : Controller) (o : Observer) (s : Same c o) (f : Fine c) (y : (v : ℕ) → v < 2 → Coming (longestOf (c .core)) (o .tally .stand) (answerC c v)) where
-  same-as : (e : Event) (d : Controller) (u : Observer) → next c e ≡ d → nextO c o e ≡ u → nextT c (o .tally) e ≡ u .tally → SameCore (d .core) u → Rested u → Followed c o e
-  same-as e d u n m t k r =
-      let q : nextT c (o .tally) e ≡ nextO c o e .tally = t ∙ ap (λ (x : Observer). x .tally) (sym m) in
-      record {
-        same = record { core = rw (n, m) k; joined = subst (λ (x : Tally). Joined (next c e) x) q (joined-next c (o .tally) (s .joined) f y e (step-of c e)); rested = rw m r };
-        tally = q;
-      }
-
-  pub taken : (e : Event) (value : ℕ) (d : Controller) → step c e ≡ accept value d → nextO c o e ≡ observer.followO c o e
-  unfolding nextO
-  taken e value d h = rw (accepted-so c (o .tally) e value d h)
-
-  pub active-is : isActive (c .core .activity .mode) ≡ isActive (o .activity .mode)
-  active-is = ap (λ (x : Activity). isActive (x .mode)) (s .core .activity)
-
-  pub followed-by : (l : ℕ) (x : Controller) → isActive (o .activity .mode) ≡ true → next c (Slot l) ≡ x
-      → observer.followO c o (Slot l) ≡ goesOnO (after c o (sampleOf c l) (x .memory)) (longestOf (c .core)) (x .memory)
-  unfolding observer.followO
-  followed-by l x a n = rw (a, n)
-
-  tallied-by : (l : ℕ) (x : Controller) → isActive (c .core .activity .mode) ≡ true → next c (Slot l) ≡ x
-      → beside.followT c (o .tally) (Slot l) ≡ afterSlot (endedC c (o .tally) (sampleOf c l)) x
-  unfolding beside.followT beside.seenIn
-  tallied-by l x a n = rw (a, n)
-
-  pub rested-by : (l : ℕ) → isActive (o .activity .mode) ≡ false → observer.followO c o (Slot l) ≡ o
-  unfolding observer.followO
-  rested-by l a = rw a
-
-  pub bytes-after : (l : ℕ) (x : Controller) → next c (Slot l) ≡ x → Below 256 (x .memory)
-  bytes-after l x n = subst (λ (z : Controller). Below 256 (z .memory)) n (fine-next c (Slot l) f .memory)
-
-  went-same : (l : ℕ) → isActive (c .core .activity .mode) ≡ true → step c (Slot l) ≡ run.answered (activeSlot c l) → Followed c o (Slot l)
-  went-same l a h =
-      let v : ℕ = sampleOf c l in
-      let small : v < 2 = sample-small c l in
-      let x : Controller = sampledSlot c v in
-      let t : Tally = o .tally in
-      let n : next c (Slot l) ≡ x = unfold activeSlot run.answered in accepted-next c t (Slot l) _ (activeSlot c l) h in
-      let u : Observer = goesOnO (after c o v (x .memory)) (longestOf (c .core)) (x .memory) in
-      let m₁ : nextO c o (Slot l) ≡ observer.followO c o (Slot l) = unfold run.answered in taken (Slot l) _ (activeSlot c l) h in
-      let b : isActive (o .activity .mode) ≡ true = sym active-is ∙ a in
-      let m₂ : observer.followO c o (Slot l) ≡ u = followed-by l x b n in
-      let t₁ : nextT c t (Slot l) ≡ beside.followT c t (Slot l) = unfold run.answered in accepted-tally c t (Slot l) _ (activeSlot c l) h in
-      let t₂ : beside.followT c t (Slot l) ≡ afterSlot (endedC c t v) x = tallied-by l x a n in
-      let i : Below 256 (x .memory) = bytes-after l x n in
-      same-as (Slot l) x u n (m₁ ∙ m₂) (t₁ ∙ t₂ ∙ slot-tally c o s f v small i) (goes-on-same (x .core) (after c o v (x .memory)) (longestOf (c .core)) (x .memory) (slot-core c o s f v small i))
-      (goes-on-rested (after c o v (x .memory)) (longestOf (c .core)) (x .memory) (slot-rested o (longestOf (c .core)) (drives (c .core)) v (x .memory) b))
-
-  pub same-next : (e : Event) → Step c e → Followed c o e
-  same-next e (refusal n h) =
-      same-as e c o (refused-next c (o .tally) e n h) (unfold nextO in rw (refused-not c (o .tally) e n h)) (unfold nextT in rw (refused-not c (o .tally) e n h)) (s .core) (s .rested)
-  same-next Reset (reset h) =
-      let t : nextT c (o .tally) Reset ≡ atReset .tally = accepted-tally c (o .tally) Reset 0 (resetAll c) h ∙ unfold beside.followT atReset in refl in
-      same-as Reset (resetAll c) atReset (accepted-next c (o .tally) Reset 0 (resetAll c) h) (taken Reset 0 (resetAll c) h ∙ unfold observer.followO in refl) t
-      (unfold resetAll resetCore atReset unsettled in record { activity = refl; line = line-anew false; frame = refl; reply = no-reply }) reset-rested
-  same-next (Write a v) (wrote h) =
-      let x : Controller = hostWritten c a (v % 256) in
-      let u : Observer = writtenO o a (v % 256) in
-      let m : nextO c o (Write a v) ≡ u = taken (Write a v) 0 x h ∙ unfold observer.followO in refl in
-      let t : nextT c (o .tally) (Write a v) ≡ u .tally = accepted-tally c (o .tally) (Write a v) 0 x h ∙ unfold beside.followT in wrote-tally c o s a (v % 256) in
-      same-as (Write a v) x u (accepted-next c (o .tally) (Write a v) 0 x h) m t (wrote-core c o s a (v % 256)) (wrote-rested o a (v % 256) (s .rested))
-  same-next (Read a) (gave value h) =
-      let m : nextO c o (Read a) ≡ o = taken (Read a) value c h ∙ unfold observer.followO in refl in
-      let t : nextT c (o .tally) (Read a) ≡ o .tally = accepted-tally c (o .tally) (Read a) value c h ∙ unfold beside.followT in refl in
-      same-as (Read a) c o (accepted-next c (o .tally) (Read a) value c h) m t (s .core) (s .rested)
-  same-next (Slot l) (went a h) = went-same l a h
-  same-next (Slot l) (rested a h) =
-      let n : next c (Slot l) ≡ c = unfold restedSlot in accepted-next c (o .tally) (Slot l) _ c h in
-      let m₁ : nextO c o (Slot l) ≡ observer.followO c o (Slot l) = unfold restedSlot in taken (Slot l) _ c h in
-      let m₂ : observer.followO c o (Slot l) ≡ o = rested-by l (sym active-is ∙ a) in
-      let t₁ : nextT c (o .tally) (Slot l) ≡ beside.followT c (o .tally) (Slot l) = unfold restedSlot in accepted-tally c (o .tally) (Slot l) _ c h in
-      let t₂ : beside.followT c (o .tally) (Slot l) ≡ o .tally = unfold beside.followT in rw a in
-      same-as (Slot l) c o n (m₁ ∙ m₂) (t₁ ∙ t₂) (s .core) (s .rested)
-
-pub same-fresh : Same fresh atReset
-same-fresh =
-    record {
-      core = unfold fresh resetAll resetCore atReset unsettled in record { activity = refl; line = line-anew false; frame = refl; reply = no-reply };
-      joined = unfold atReset in joined-fresh;
-      rested = reset-rested;
-    }
 
 -- ---- what the claim says of it
 
@@ -653,4 +585,160 @@ module _ (c : Controller) (o : Observer) (s : Same c o) where
         service = serving-is (c .core .service) (o .tally) (s .joined .service);
         counts = counted-in (o .tally .stand) (c .core .service) (o .tally) e;
         level = level-now (isActive (o .activity .mode)) refl;
+        diagnosis = s .diagnosis;
       }
+
+-- ---- the diagnosis
+
+not-asleep : (m : Mode) → isActive m ≡ true → isAsleep m ≡ false
+unfolding isActive isAsleep
+not-asleep Idle e = refl
+not-asleep Active e = refl
+not-asleep Asleep e = absurd (false≢true e)
+
+own-apart : (y : Replying) (here : Place) → ownFrame (roleApart y here) ≡ isReplying y
+unfolding roleApart ownFrame isReplying
+own-apart silent here = left ownFrame (underWay here) Receiver Nobody false refl refl
+own-apart (replies n f levels) here = refl
+
+own-is : (x : Stand) (y : Replying) (here : Place) → ownFrame (roleAs x y here) ≡ ownIn x y
+unfolding roleAs ownIn ownFrame
+own-is away y here = own-apart y here
+own-is between y here = own-apart y here
+own-is (opening start) y here = refl
+own-is (inside start levels) y here = refl
+own-is (answered start n) y here = refl
+
+-- the level driven does not look at the diagnosis
+drives-as-beside : (r : Role) (k : Core) (x : Diagnosis) → drivesAs r (withDiagnosis k x) ≡ drivesAs r k
+unfolding drivesAs
+drives-as-beside Nobody k x = refl
+drives-as-beside Receiver k x = refl
+drives-as-beside Sender k x = refl
+drives-as-beside Asker k x = refl
+drives-as-beside Replier k x = refl
+
+pub drives-beside : (k : Core) (x : Diagnosis) → drives (withDiagnosis k x) ≡ drives k
+unfolding drives
+drives-beside k x = drives-as-beside (roleIn k) k x
+
+-- ---- every event
+
+-- controller and observer still belong together, and the observer's tally is the one stepped beside the controller
+pub record Followed (c : Controller) (o : Observer) (e : Event) : Type 0 where
+  pub same : Same (next c e) (nextO c o e)
+  pub tally : nextT c (o .tally) e ≡ nextO c o e .tally
+
+-- y: an answer that comes is not at its longest
+module _ (c : Controller) (o : Observer) (s : Same c o) (f : Fine c) (y : (v : ℕ) → v < 2 → Coming (longestOf (c .core)) (o .tally .stand) (answerC c v)) where
+  same-as : (e : Event) (d : Controller) (u : Observer) → next c e ≡ d → nextO c o e ≡ u → nextT c (o .tally) e ≡ u .tally → SameCore (d .core) u → Rested u → d .core .diagnosis ≡ u .diagnosis → Followed c o e
+  same-as e d u n m t k r x =
+      let q : nextT c (o .tally) e ≡ nextO c o e .tally = t ∙ ap (λ (x : Observer). x .tally) (sym m) in
+      record {
+        same = record { core = rw (n, m) k; joined = subst (λ (x : Tally). Joined (next c e) x) q (joined-next c (o .tally) (s .joined) f y e (step-of c e)); rested = rw m r; diagnosis = rw (n, m) x };
+        tally = q;
+      }
+
+  pub taken : (e : Event) (value : ℕ) (d : Controller) → step c e ≡ accept value d → nextO c o e ≡ observer.followO c o e
+  unfolding nextO
+  taken e value d h = rw (accepted-so c (o .tally) e value d h)
+
+  pub active-is : isActive (c .core .activity .mode) ≡ isActive (o .activity .mode)
+  active-is = ap (λ (x : Activity). isActive (x .mode)) (s .core .activity)
+
+  pub followed-by : (l : ℕ) (x : Controller) → isActive (o .activity .mode) ≡ true → next c (Slot l) ≡ x
+      → observer.followO c o (Slot l) ≡ withDiagnosisO (goesOnO (after c o (sampleOf c l) (x .memory)) (longestOf (c .core)) (x .memory)) (diagnosisO c o l)
+  unfolding observer.followO
+  followed-by l x a n = rw (a, n)
+
+  tallied-by : (l : ℕ) (x : Controller) → isActive (c .core .activity .mode) ≡ true → next c (Slot l) ≡ x
+      → beside.followT c (o .tally) (Slot l) ≡ afterSlot (endedC c (o .tally) (sampleOf c l)) x
+  unfolding beside.followT beside.seenIn
+  tallied-by l x a n = rw (a, n)
+
+  pub rested-by : (l : ℕ) → isActive (o .activity .mode) ≡ false → observer.followO c o (Slot l) ≡ withDiagnosisO o (diagnosisO c o l)
+  unfolding observer.followO
+  rested-by l a = rw a
+
+  pub bytes-after : (l : ℕ) (x : Controller) → next c (Slot l) ≡ x → Below 256 (x .memory)
+  bytes-after l x n = subst (λ (z : Controller). Below 256 (z .memory)) n (fine-next c (Slot l) f .memory)
+
+  -- the diagnosis: both count the same edges, find the same turn of the model's own frame and the same end of a good frame
+  turns-same : (l : ℕ) → isActive (o .activity .mode) ≡ true → (x : Diagnosis) → next c (Slot l) ≡ withDiagnosisC (sampledSlot c (sampleOf c l)) x → turns (c .core) (sampledSlot c (sampleOf c l) .core) ≡ turnsO c o l
+  unfolding turns turnsO
+  turns-same l b x n =
+      let own : ownFrame (roleIn (c .core)) ≡ ownIn (o .tally .stand) (o .reply) = ap ownFrame (agrees c o s .role) ∙ own-is (o .tally .stand) (o .reply) (o .frame .place) in
+      let d : drives (next c (Slot l) .core) ≡ drives (sampledSlot c (sampleOf c l) .core) = ap (λ (y : Controller). drives (y .core)) n ∙ drives-beside (sampledSlot c (sampleOf c l) .core) x in
+      rw (b, own, d)
+
+  ended-same-as : (l : ℕ) → isActive (o .activity .mode) ≡ true → slot-rule.ended c (sampleOf c l) ≡ endedO c o l
+  unfolding slot-rule.ended endedO
+  ended-same-as l b = rw (b, hears-same c o s (sampleOf c l))
+
+  went-diagnosis : (l : ℕ) → isActive (o .activity .mode) ≡ true → (x : Diagnosis) → next c (Slot l) ≡ withDiagnosisC (sampledSlot c (sampleOf c l)) x → activeSlot c l .core .diagnosis ≡ diagnosisO c o l
+  unfolding activeSlot diagnosedSlot diagnosisAfter diagnosisO
+  went-diagnosis l b x n = rw (not-asleep (o .activity .mode) b, turns-same l b x n, ended-same-as l b, s .diagnosis)
+
+  rested-diagnosis : (l : ℕ) → isActive (o .activity .mode) ≡ false → restingSlot c l .core .diagnosis ≡ diagnosisO c o l
+  unfolding restingSlot diagnosisO turnsO endedO
+  rested-diagnosis l b = go (isAsleep (c .core .activity .mode)) (ap (λ (x : Activity). isAsleep (x .mode)) (sym (s .core .activity)))
+    where
+      go : (y : Bool) → isAsleep (o .activity .mode) ≡ y → pick y c (diagnosedSlot c l c false false) .core .diagnosis ≡ pick (isAsleep (o .activity .mode)) (o .diagnosis) (diagnosed (getD (c .memory) diagnosisControl 0) (levelsOf c l) (both (isActive (o .activity .mode)) (both (ownIn (o .tally .stand) (o .reply)) (both (eqb (drives (c .core)) 0) (eqb (drives (next c (Slot l) .core)) 1)))) (both (isActive (o .activity .mode)) (endsWell (hearsO o (longestOf (c .core)) (drives (c .core)) (sampleOf c l)))) (o .diagnosis))
+      go true e = rw e (s .diagnosis)
+      go false e = rw (e, b) (unfold diagnosedSlot diagnosisAfter in ap (diagnosed (getD (c .memory) diagnosisControl 0) (levelsOf c l) false false) (s .diagnosis))
+
+  went-same : (l : ℕ) → isActive (c .core .activity .mode) ≡ true → step c (Slot l) ≡ run.answered (activeSlot c l) → Followed c o (Slot l)
+  went-same l a h =
+      let v : ℕ = sampleOf c l in
+      let small : v < 2 = sample-small c l in
+      let x : Controller = sampledSlot c v in
+      let z : Diagnosis = activeSlot c l .core .diagnosis in
+      let t : Tally = o .tally in
+      let n : next c (Slot l) ≡ withDiagnosisC x z = went-next c t l h in
+      let u : Observer = goesOnO (after c o v (x .memory)) (longestOf (c .core)) (x .memory) in
+      let m₁ : nextO c o (Slot l) ≡ observer.followO c o (Slot l) = unfold run.answered in taken (Slot l) _ (activeSlot c l) h in
+      let b : isActive (o .activity .mode) ≡ true = sym active-is ∙ a in
+      let m₂ : observer.followO c o (Slot l) ≡ withDiagnosisO u (diagnosisO c o l) = followed-by l (withDiagnosisC x z) b n in
+      let t₁ : nextT c t (Slot l) ≡ beside.followT c t (Slot l) = unfold run.answered in accepted-tally c t (Slot l) _ (activeSlot c l) h in
+      let t₂ : beside.followT c t (Slot l) ≡ afterSlot (endedC c t v) x = tallied-by l (withDiagnosisC x z) a n ∙ after-beside (endedC c t v) x z in
+      let i : Below 256 (x .memory) = bytes-after l (withDiagnosisC x z) n in
+      same-as (Slot l) (withDiagnosisC x z) (withDiagnosisO u (diagnosisO c o l)) n (m₁ ∙ m₂) (t₁ ∙ t₂ ∙ slot-tally c o s f v small i)
+      (same-beside _ _ _ _ (goes-on-same (x .core) (after c o v (x .memory)) (longestOf (c .core)) (x .memory) (slot-core c o s f v small i)))
+      (rested-beside _ _ (goes-on-rested (after c o v (x .memory)) (longestOf (c .core)) (x .memory) (slot-rested o (longestOf (c .core)) (drives (c .core)) v (x .memory) b)))
+      (went-diagnosis l b z n)
+
+  pub same-next : (e : Event) → Step c e → Followed c o e
+  same-next e (refusal n h) =
+      same-as e c o (refused-next c (o .tally) e n h) (unfold nextO in rw (refused-not c (o .tally) e n h)) (unfold nextT in rw (refused-not c (o .tally) e n h)) (s .core) (s .rested) (s .diagnosis)
+  same-next Reset (reset h) =
+      let t : nextT c (o .tally) Reset ≡ atReset .tally = accepted-tally c (o .tally) Reset 0 (resetAll c) h ∙ unfold beside.followT atReset in refl in
+      same-as Reset (resetAll c) atReset (accepted-next c (o .tally) Reset 0 (resetAll c) h) (taken Reset 0 (resetAll c) h ∙ unfold observer.followO in refl) t
+      (unfold resetAll resetCore atReset unsettled in record { activity = refl; line = line-anew false; frame = refl; reply = no-reply }) reset-rested (unfold resetAll resetCore atReset in refl)
+  same-next (Write a v) (wrote h) =
+      let x : Controller = hostWritten c a (v % 256) in
+      let u : Observer = writtenO (c .memory) o a (v % 256) in
+      let m : nextO c o (Write a v) ≡ u = taken (Write a v) 0 x h ∙ unfold observer.followO in refl in
+      let t : nextT c (o .tally) (Write a v) ≡ u .tally = accepted-tally c (o .tally) (Write a v) 0 x h ∙ unfold beside.followT in wrote-tally c o s a (v % 256) in
+      same-as (Write a v) x u (accepted-next c (o .tally) (Write a v) 0 x h) m t (wrote-core c o s a (v % 256)) (wrote-rested (c .memory) o a (v % 256) (s .rested)) (wrote-diagnosis c o s a (v % 256))
+  same-next (Read a) (gave value h) =
+      let m : nextO c o (Read a) ≡ o = taken (Read a) value c h ∙ unfold observer.followO in refl in
+      let t : nextT c (o .tally) (Read a) ≡ o .tally = accepted-tally c (o .tally) (Read a) value c h ∙ unfold beside.followT in refl in
+      same-as (Read a) c o (accepted-next c (o .tally) (Read a) value c h) m t (s .core) (s .rested) (s .diagnosis)
+  same-next (Slot l) (went a h) = went-same l a h
+  same-next (Slot l) (rested a h) =
+      let x : Diagnosis = restingSlot c l .core .diagnosis in
+      let b : isActive (o .activity .mode) ≡ false = sym active-is ∙ a in
+      let m₁ : nextO c o (Slot l) ≡ observer.followO c o (Slot l) = unfold restedSlot in taken (Slot l) _ (restingSlot c l) h in
+      let t₁ : nextT c (o .tally) (Slot l) ≡ beside.followT c (o .tally) (Slot l) = unfold restedSlot in accepted-tally c (o .tally) (Slot l) _ (restingSlot c l) h in
+      let t₂ : beside.followT c (o .tally) (Slot l) ≡ o .tally = unfold beside.followT in rw a in
+      same-as (Slot l) (withDiagnosisC c x) (withDiagnosisO o (diagnosisO c o l)) (rested-next c (o .tally) l h) (m₁ ∙ rested-by l b) (t₁ ∙ t₂)
+      (same-beside _ _ _ _ (s .core)) (rested-beside _ _ (s .rested)) (rested-diagnosis l b)
+
+pub same-fresh : Same fresh atReset
+same-fresh =
+    record {
+      core = unfold fresh resetAll resetCore atReset unsettled in record { activity = refl; line = line-anew false; frame = refl; reply = no-reply };
+      joined = unfold atReset in joined-fresh;
+      rested = reset-rested;
+      diagnosis = unfold fresh resetAll resetCore atReset in refl;
+    }

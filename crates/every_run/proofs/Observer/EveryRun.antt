@@ -14,8 +14,8 @@ use Rattle.rules.specs.Definitions.Slots.{drives, sampleOf}
 use Rattle.rules.specs.Definitions.Run.{fresh, next}
 use Rattle.every_run.specs.Tally.{Stand, away, between, opening, inside, answered, Tally, Answering, countedIn, countedT}
 use Rattle.every_run.specs.Observer as observer
-use Rattle.every_run.specs.Observer.{Replying, silent, replies, isReplying, Observer, atReset, answerIn, answerO, accepted, seenO, nextO}
-use Rattle.every_run.specs.Sending.{levelIn, levelO, AtAcknowledge, InSlot, DrivesAnswered, DrivesReply, Outside, te, Claim, SendingOver}
+use Rattle.every_run.specs.Observer.{Replying, silent, replies, isReplying, Observer, atReset, answerIn, answerO, accepted, sampleO, seenO, nextO}
+use Rattle.every_run.specs.Sending.{levelIn, levelO, AtAcknowledge, InSlot, DrivesAnswered, DrivesReply, Outside, te, SampledAs, Claim, SendingOver}
 use Rattle.every_run.specs.Settled.{SettledOver}
 use Rattle.every_run.proofs.Steps.{step-of}
 use Rattle.every_run.proofs.Ranges.Limits.{Fine}
@@ -141,12 +141,21 @@ module _ (c : Controller) (o : Observer) (s : Same c o) where
           in-event (Read a) = refl
           in-event (Slot l) = left (λ (t : Tally). t) (isActive (o .activity .mode)) _ (o .tally) (o .tally) (still (o .tally .stand) (unfold serviceOf in (s .joined .service)) _ _ _) refl
 
+  -- the input that the observer's own diagnosis selects
+  sampled-as : (e : Event) → SampledAs c o e
+  unfolding sampleOf sampleO
+  sampled-as Reset = tt
+  sampled-as (Write a v) = tt
+  sampled-as (Read a) = tt
+  sampled-as (Slot l) = rw (s .diagnosis)
+
   claimed : Fine c → Steady (c .core) → ((v : ℕ) → v < 2 → Coming (longestOf (c .core)) (o .tally .stand) (answerC c v)) → (e : Event) → Claim c o e
   claimed f steady y e =
       let h : Holds c (o .tally) e = claim c (o .tally) (s .joined) f y e (step-of c e) in
       let q : seenT c (o .tally) e ≡ seenO c o e = seen-same e in
       record {
         agrees = agrees c o s;
+        sampled = sampled-as e;
         fits = h .fits;
         driven = h .driven;
         answer = λ x. answering e;

@@ -11,6 +11,7 @@ use lib.ListN.{getD}
 use Rattle.line.specs.Bits.{pick, Below}
 use Rattle.line.proofs.Laws.{picked}
 use Rattle.rules.specs.Definitions.Setters.{withFlags, withReport, withService}
+use Rattle.diagnosis.specs.declared.Diagnosis.{Diagnosis}
 use Rattle.rules.specs.Definitions.Longest.{longestOf}
 use Rattle.rules.specs.Definitions.Registers.{both, either, hasBit, lineControl, transmitControl, autonomous, command, lineStatusAt, transmissionStatus, lastMessageStatus, lastErrorStatus, interruptStatusAt, interruptReset, asksSleep, asksRearbitration, readOnly, writeOnly, lineStatus, retriesByte, interruptStatus, BOV, CV, unless, cleared, transmitted, resetReport}
 use Rattle.rules.specs.Definitions.Mailbox.{markedCher, markedChtx, resetMemory}
@@ -22,19 +23,19 @@ use Rattle.rules.specs.Definitions.Attempt.{atStage, inService, isServing, driv
 use Rattle.rules.specs.Definitions.Service.{resting, stopped, endingOf, settled, memoryEnded, retriesOf, reportSending, reportJudged, reportEnded, goodFor, answeredAs, fulfils, memoryReplied, reportReplied, chosen, choiceOf, choose, hearOwn}
 use Rattle.rules.specs.Definitions.State.{isActive, isAsleep, isIdle, serving, resetCore, idleDue, slept}
 use Rattle.rules.specs.Definitions.Slots as slot-rule
-use Rattle.rules.specs.Definitions.Slots.{roleIn, replyVerdict, heard, delivers, verdictAs, serviceJudged, ending, reportAfter, memoryJudged, coreJudged, choiceMade, startMade, followsOn, drives, sampleOf, judgedSlot, sampledSlot, activeSlot}
+use Rattle.rules.specs.Definitions.Slots.{roleIn, replyVerdict, heard, delivers, verdictAs, serviceJudged, ending, reportAfter, memoryJudged, coreJudged, choiceMade, startMade, followsOn, drives, sampleOf, judgedSlot, sampledSlot, activeSlot, restingSlot}
 use Rattle.rules.specs.Definitions.Host.{resetAll, resets, sleeps, modeCommanded, keptByte, flagsCleared, coreWritten, serviceAsked, stoppedCore, byteWritten, hostWritten, lineStatusOf, statusRead, byteRead, accessRefusals, readRefusals}
 use Rattle.rules.specs.Definitions.Run as run
 use Rattle.rules.specs.Definitions.Run.{accept, refuse, hostRead, restedSlot, step, next}
 use Rattle.every_run.specs.Tally.{Stand, away, between, opening, inside, answered, Tally, Answering, none, requestT, withStand, withAbort, withRear, countedIn, countedT, endedT, chosenT, choiceT, chooseIn, chooseT, startIn, startT, askedIn, askedT, asks, isAway}
-use Rattle.every_run.specs.Observer.{freeO, Replying, silent, replies, Observer, fitting, heardDelivery, deliveredApart, deliveredIn, isStored, answerIn, answerO, pausing, waits, fulfilledT, isReplying, fulfilledO, sampledO, goesOnO, accepted, nextO}
+use Rattle.every_run.specs.Observer.{freeO, Replying, silent, replies, Observer, fitting, heardDelivery, deliveredApart, deliveredIn, isStored, answerIn, answerO, pausing, waits, fulfilledT, isReplying, fulfilledO, sampledO, goesOnO, accepted, nextO, withDiagnosisO, diagnosisO}
 use Rattle.every_run.specs.Sending.{levelO}
 use Rattle.every_run.specs.Settled as settlement
 use Rattle.every_run.specs.Settled.{sentAll, exhaustedIn, abortedIn, endedMap, retriesT, deliveredMap, marksCher, Replied, repliedAt, repliedMap, isWhole, isBroken, repliedMessage, judgedIn, hearingO, deliveryIn, repliedIn, writtenMap, memoryO, zeroRetries, sendingO, messageO, isGood, isNothing, codeHeard, overflows, untakenO, errorO, flagO, readO, rakO, Answers, Hears, Settles}
 use Rattle.rules.proofs.Logic.{left, both-true}
 use Rattle.every_run.proofs.Roles.{role-sender, role-asker, role-other, heard-sender, heard-asker}
 use Rattle.every_run.proofs.Steps as steps
-use Rattle.every_run.proofs.Steps.{Call, refused, call-of, Step, refusal, reset, wrote, gave, went, rested, step-of, refused-next, refused-not, accepted-next, accepted-so}
+use Rattle.every_run.proofs.Steps.{Call, refused, call-of, Step, refusal, reset, wrote, gave, went, rested, withDiagnosisC, step-of, went-next, rested-next, refused-next, refused-not, accepted-next, accepted-so}
 use Rattle.every_run.proofs.Ranges.Limits.{Fine}
 use Rattle.every_run.proofs.Sending.Join.{made, serviceIn, serviceOf, chosen-is, JudgedIn}
 use Rattle.every_run.proofs.Sending.Beside.{answerC, endedC}
@@ -719,10 +720,10 @@ module _ (c : Controller) (o : Observer) (s : Same c o) (l : ℕ) where
         go true = unfold none isAway in refl
         go false = refl
 
-    slot-sending : (u : Observer) → u ≡ goesOnO (after c o v m) (longestOf (c .core)) m → sampledSlot c v .core .report .sending
+    slot-sending : (u : Observer) → u .tally ≡ goesOnO (after c o v m) (longestOf (c .core)) m .tally → sampledSlot c v .core .report .sending
         ≡ pick (both (either full (isAway (endedT j .stand))) (not (isAway (u .tally .stand)))) (retriesT (u .tally)) (pick (ltb (t .errors) (j .errors)) (retriesT j) (was .sending))
     slot-sending u e =
-        let z : u .tally ≡ startT chosenTally m (freeO (after c o v m .line)) (after c o v m .frame) = ap (λ (x : Observer). x .tally) e ∙ tally-after in
+        let z : u .tally ≡ startT chosenTally m (freeO (after c o v m .line)) (after c o v m .frame) = e ∙ tally-after in
         ap (λ (x : Report). x .sending) slot-report ∙ follows-sending m (judgedCore c v) ∙ shown-choice
         ∙ rw (z, start-stays chosenTally m (freeO (after c o v m .line)) (after c o v m .frame), start-retries chosenTally m (freeO (after c o v m .line)) (after c o v m .frame), ended-away)
 
@@ -749,6 +750,11 @@ pub record Leaves (c : Controller) (o : Observer) (e : Event) (d : Controller) :
   pub re : d .core .report .flags .re ≡ flagO false 2 (λ levels. either (marksCher (deliveryIn c o levels)) (isBroken (repliedIn c o levels))) (c .core .report .flags .re) o e
   pub rok : d .core .report .flags .rok ≡ flagO false 1 (λ levels. both (isStored (deliveryIn c o levels)) (rakO o)) (c .core .report .flags .rok) o e
   pub rnok : d .core .report .flags .rnok ≡ flagO false 0 (λ levels. both (isStored (deliveryIn c o levels)) (not (rakO o))) (c .core .report .flags .rnok) o e
+
+-- none of it looks at the diagnosis
+beside-leaves : (c : Controller) (o : Observer) (e : Event) (d : Controller) (x : Diagnosis) → Leaves c o e d → Leaves c o e (withDiagnosisC d x)
+beside-leaves c o e d x l =
+    record { memory = l .memory; sending = l .sending; message = l .message; error = l .error; rst = l .rst; te = l .te; tok = l .tok; re = l .re; rok = l .rok; rnok = l .rnok }
 
 reset-leaves : (c : Controller) (o : Observer) → Leaves c o Reset (resetAll c)
 unfolding resetAll resetCore resetReport memoryO sendingO messageO errorO zeroRetries flagO
@@ -822,13 +828,13 @@ module _ (c : Controller) (o : Observer) (s : Same c o) (l : ℕ) (a : isActive 
       ∙ ap (λ (b : Bool). pick (both (isStored (deliveryIn c o l)) (not b)) true (before .rnok)) asked-rak
 
   slot-leaves : Fine c → Below 256 (sampledSlot c (sampleOf c l) .memory)
-      → nextO c o (Slot l) ≡ goesOnO (after c o (sampleOf c l) (sampledSlot c (sampleOf c l) .memory)) (longestOf (c .core)) (sampledSlot c (sampleOf c l) .memory)
+      → nextO c o (Slot l) ≡ withDiagnosisO (goesOnO (after c o (sampleOf c l) (sampledSlot c (sampleOf c l) .memory)) (longestOf (c .core)) (sampledSlot c (sampleOf c l) .memory)) (diagnosisO c o l)
       → Leaves c o (Slot l) (sampledSlot c (sampleOf c l))
   unfolding memoryO sendingO messageO errorO flagO
   slot-leaves f b n =
       record {
         memory = rw a (slot-map c o s l);
-        sending = rw a (slot-sending c o s l f b (nextO c o (Slot l)) n);
+        sending = rw a (slot-sending c o s l f b (nextO c o (Slot l)) (ap (λ (x : Observer). x .tally) n));
         message = rw a (slot-message c o s l);
         error = rw a (slot-error c o s l);
         rst = rw a slot-rst;
@@ -1051,13 +1057,13 @@ status-read a p q r t u = rw u (go (leb lineStatusAt a) refl (leb a lastErrorSta
     go false e y d = refl
 
 module _ (c : Controller) (o : Observer) (s : Same c o) (a : ℕ) where
-  line-status : lineStatusOf (c .core) ≡ lineStatus (isAsleep (o .activity .mode)) (isIdle (o .activity .mode)) (not (isAway (o .tally .stand))) (underWay (o .frame .place))
+  line-status : lineStatusOf (c .core) ≡ lineStatus (isAsleep (o .activity .mode)) (isIdle (o .activity .mode)) (o .diagnosis) (not (isAway (o .tally .stand))) (underWay (o .frame .place))
   unfolding lineStatusOf
-  line-status = rw (serving-is (c .core .service) (o .tally) (s .joined .service), s .core .activity, s .core .frame)
+  line-status = rw (serving-is (c .core .service) (o .tally) (s .joined .service), s .core .activity, s .core .frame, s .diagnosis)
 
   abbrev Reads : Bool → Bool → Bool → Bool → Bool → Type 0
   Reads p q r t u = byteRead c a
-      ≡ pick p (lineStatus (isAsleep (o .activity .mode)) (isIdle (o .activity .mode)) (not (isAway (o .tally .stand))) (underWay (o .frame .place)))
+      ≡ pick p (lineStatus (isAsleep (o .activity .mode)) (isIdle (o .activity .mode)) (o .diagnosis) (not (isAway (o .tally .stand))) (underWay (o .frame .place)))
       (pick q (retriesByte (c .core .report .sending)) (pick r (retriesByte (c .core .report .message)) (pick t (c .core .report .error) (pick u (interruptStatus (c .core .report .flags)) (getD (c .memory) (a % 256) 0)))))
 
   reads : (p : Bool) → eqb a lineStatusAt ≡ p → (q : Bool) → eqb a transmissionStatus ≡ q → (r : Bool) → eqb a lastMessageStatus ≡ r → (t : Bool) → eqb a lastErrorStatus ≡ t
@@ -1076,7 +1082,7 @@ module _ (c : Controller) (o : Observer) (s : Same c o) (a : ℕ) where
 
 read-called : (c : Controller) (a : ℕ) → Call c (accept (byteRead c a) c) (step c (Read a))
 unfolding step hostRead
-read-called c a = call-of c (accessRefusals (c .core) a ++ readRefusals a) (accept (byteRead c a) c)
+read-called c a = call-of c (accessRefusals c a ++ readRefusals a) (accept (byteRead c a) c)
 
 accepted-read : (c : Controller) (a : ℕ) → Call c (accept (byteRead c a) c) (step c (Read a)) → accepted c (Read a) ≡ true → step c (Read a) .value ≡ byteRead c a
 accepted-read c a (refused why h) y = absurd (false≢true (sym (refused-not c none (Read a) why h) ∙ y))
@@ -1097,42 +1103,42 @@ module _ (c : Controller) (o : Observer) (s : Same c o) (f : Fine c) (z : (v : �
       let q : drives (next c (Slot l) .core) ≡ levelO (nextO c o (Slot l)) = agrees (next c (Slot l)) (nextO c o (Slot l)) (same-next c o s f z (Slot l) (step-of c (Slot l)) .same) .level in
       e ∙ ap (λ (x : Controller). transmitted (getD (x .memory) lineControl 0) (drives (x .core))) (sym n) ∙ ap (transmitted (getD (next c (Slot l) .memory) lineControl 0)) q
 
-  rest-value : (l : ℕ) → isActive (c .core .activity .mode) ≡ false → step c (Slot l) ≡ restedSlot c → Answers c o (Slot l)
+  rest-value : (l : ℕ) → isActive (c .core .activity .mode) ≡ false → step c (Slot l) ≡ restedSlot (restingSlot c l) → Answers c o (Slot l)
   rest-value l a h y =
-      let n : next c (Slot l) ≡ c = unfold restedSlot in accepted-next c (o .tally) (Slot l) (transmitted (getD (c .memory) lineControl 0) 1) c h in
-      let e : step c (Slot l) .value ≡ transmitted (getD (c .memory) lineControl 0) 1 = ap (λ (x : Answer). x .value) h ∙ unfold restedSlot accept in refl in
-      let m : nextO c o (Slot l) ≡ o = rested-observer l a h in
-      let q : levelO (nextO c o (Slot l)) ≡ 1 = ap levelO m ∙ quiet-level (sym (active-is c o s f z) ∙ a) in
+      let d : Controller = restingSlot c l in
+      let k : ℕ = transmitted (getD (d .memory) lineControl 0) 1 in
+      let i : step c (Slot l) ≡ accept k d = h ∙ unfold restedSlot in refl in
+      let n : next c (Slot l) ≡ d = accepted-next c (o .tally) (Slot l) k d i in
+      let e : step c (Slot l) .value ≡ k = ap (λ (x : Answer). x .value) i ∙ unfold accept in refl in
+      let b : isActive (o .activity .mode) ≡ false = sym (active-is c o s f z) ∙ a in
+      let m : nextO c o (Slot l) ≡ withDiagnosisO o (diagnosisO c o l) = taken c o s f z (Slot l) k d i ∙ rested-by c o s f z l b in
+      let q : levelO (nextO c o (Slot l)) ≡ 1 = ap levelO m ∙ quiet-level (diagnosisO c o l) b in
       e ∙ ap (λ (x : Controller). transmitted (getD (x .memory) lineControl 0) 1) (sym n) ∙ ap (transmitted (getD (next c (Slot l) .memory) lineControl 0)) (sym q)
     where
-      quiet-level : isActive (o .activity .mode) ≡ false → levelO o ≡ 1
-      quiet-level b = unfold levelO in rw b
-
-      rested-observer : (l : ℕ) → isActive (c .core .activity .mode) ≡ false → step c (Slot l) ≡ restedSlot c → nextO c o (Slot l) ≡ o
-      rested-observer l a h =
-          let k : ℕ = transmitted (getD (c .memory) lineControl 0) 1 in
-          let i : step c (Slot l) ≡ accept k c = h ∙ unfold restedSlot in refl in
-          taken c o s f z (Slot l) k c i ∙ rested-by c o s f z l (sym (active-is c o s f z) ∙ a)
+      quiet-level : (x : Diagnosis) → isActive (o .activity .mode) ≡ false → levelO (withDiagnosisO o x) ≡ 1
+      quiet-level x b = unfold levelO in rw b
 
   read-value : (a : ℕ) → Answers c o (Read a)
   read-value a y = accepted-read c a (read-called c a) y ∙ host-reads c o s a
 
   went-settles : (l : ℕ) → isActive (c .core .activity .mode) ≡ true → step c (Slot l) ≡ run.answered (activeSlot c l) → Settles c o (Slot l)
-  unfolding activeSlot
   went-settles l a h =
-      let d : Controller = sampledSlot c (sampleOf c l) in
-      let k : ℕ = transmitted (getD (d .memory) lineControl 0) (drives (d .core)) in
-      let i : step c (Slot l) ≡ accept k d = h ∙ unfold run.answered in refl in
+      let x : Controller = activeSlot c l in
+      let d : Controller = withDiagnosisC (sampledSlot c (sampleOf c l)) (activeSlot c l .core .diagnosis) in
+      let k : ℕ = transmitted (getD (x .memory) lineControl 0) (drives (x .core)) in
+      let i : step c (Slot l) ≡ accept k x = h ∙ unfold run.answered in refl in
       let b : isActive (o .activity .mode) ≡ true = sym (active-is c o s f z) ∙ a in
-      let n : next c (Slot l) ≡ d = accepted-next c (o .tally) (Slot l) k d i in
-      settles-taken c o (Slot l) (slot-value l d h) (heard-so c o s (Slot l)) d n (accepted-so c (o .tally) (Slot l) k d i)
-      (slot-leaves c o s l b f (bytes-after c o s f z l d n) (taken c o s f z (Slot l) k d i ∙ followed-by c o s f z l d b n))
+      let n : next c (Slot l) ≡ d = went-next c (o .tally) l h in
+      settles-taken c o (Slot l) (slot-value l x h) (heard-so c o s (Slot l)) d n (accepted-so c (o .tally) (Slot l) k x i)
+      (beside-leaves c o (Slot l) (sampledSlot c (sampleOf c l)) _ (slot-leaves c o s l b f (bytes-after c o s f z l d n) (taken c o s f z (Slot l) k x i ∙ followed-by c o s f z l d b n)))
 
-  rested-settles : (l : ℕ) → isActive (c .core .activity .mode) ≡ false → step c (Slot l) ≡ restedSlot c → Settles c o (Slot l)
+  rested-settles : (l : ℕ) → isActive (c .core .activity .mode) ≡ false → step c (Slot l) ≡ restedSlot (restingSlot c l) → Settles c o (Slot l)
   rested-settles l a h =
-      let k : ℕ = transmitted (getD (c .memory) lineControl 0) 1 in
-      let i : step c (Slot l) ≡ accept k c = h ∙ unfold restedSlot in refl in
-      settles-taken c o (Slot l) (rest-value l a h) (heard-so c o s (Slot l)) c (accepted-next c (o .tally) (Slot l) k c i) (accepted-so c (o .tally) (Slot l) k c i) (rest-leaves c o l (sym (active-is c o s f z) ∙ a))
+      let d : Controller = restingSlot c l in
+      let k : ℕ = transmitted (getD (d .memory) lineControl 0) 1 in
+      let i : step c (Slot l) ≡ accept k d = h ∙ unfold restedSlot in refl in
+      settles-taken c o (Slot l) (rest-value l a h) (heard-so c o s (Slot l)) (withDiagnosisC c (d .core .diagnosis)) (rested-next c (o .tally) l h) (accepted-so c (o .tally) (Slot l) k d i)
+      (beside-leaves c o (Slot l) c _ (rest-leaves c o l (sym (active-is c o s f z) ∙ a)))
 
   pub settles : (e : Event) → Step c e → Settles c o e
   settles e (refusal n h) = let y = refused-not c (o .tally) e n h in settles-refused c o e (no-value c o e (refused-value c e n h) y) (heard-so c o s e) (refused-next c (o .tally) e n h) y

@@ -12,7 +12,7 @@ use Rattle.line.specs.Bits.{pick}
 use Rattle.line.specs.Frame.{byteBits}
 use Rattle.line.proofs.Laws.{picked, code-length}
 use Rattle.line.proofs.Levels.{recessive}
-use Rattle.rules.specs.Definitions.Setters.{withReport, withService}
+use Rattle.rules.specs.Definitions.Setters.{withReport, withService, withDiagnosis}
 use Rattle.rules.specs.Definitions.Longest.{capacity}
 use Rattle.rules.specs.Definitions.Registers.{both, transmitControl, autonomous}
 use Rattle.rules.specs.Definitions.Channels.{base, withCher, withChtx, withChrx}
@@ -24,13 +24,13 @@ use Rattle.rules.specs.Definitions.Attempt.{atStage, inService, isServing, betw
 use Rattle.rules.specs.Definitions.Service.{stopped, endingOf, settled, memoryEnded, reportEnded, started, fulfils, judgeReply, replyMoved, replied, memoryReplied, hearOwn}
 use Rattle.rules.specs.Definitions.State.{isActive, serving, resetCore, idled, idleDue, slept}
 use Rattle.rules.specs.Definitions.Slots.{roleIn, replyVerdict, heardAs, heard, delivers, verdictAs, verdict, serviceJudged, ending, receptionJudged, memoryJudged, replyAfter, coreJudged, chooses, choiceMade, startMade, followsOn, drivesAs, drives, sampleOf, judgedSlot, sampledSlot, activeSlot}
-use Rattle.rules.specs.Definitions.Host.{resetAll, resets, sleeps, coreWritten, serviceAsked, stoppedCore, byteWritten, hostWritten, keptByte}
+use Rattle.rules.specs.Definitions.Host.{resetAll, resets, sleeps, coreWritten, serviceAsked, stoppedCore, diagnosisWritten, byteWritten, hostWritten, keptByte}
 use Rattle.rules.specs.Definitions.Run.{fresh, answered, restedSlot, next, after}
 use Rattle.every_run.specs.Tally.{none}
 use Rattle.every_run.proofs.Sending.Follow.{idle-service, follows-reception, follows-reply, stopped-service}
 use Rattle.every_run.specs.Observer.{accepted}
 use Rattle.every_run.proofs.Steps as steps
-use Rattle.every_run.proofs.Steps.{Step, step-of, refused-next, refused-not, accepted-next}
+use Rattle.every_run.proofs.Steps.{Step, step-of, withDiagnosisC, refused-next, refused-not, accepted-next, went-next, rested-next}
 use Rattle.rules.proofs.Logic.{clash}
 use Rattle.every_run.proofs.Roles as role
 use Rattle.every_run.proofs.Roles.{RoleIs, role-is, role-sender, heard-sender}
@@ -147,26 +147,27 @@ base-small ch = omega arith
 
 -- ---- the slot
 
--- a slot changes nothing, or it is sampled
-pub slot-cases : (c : Controller) (l : ℕ) (P : Controller → Type 0) → P c → P (sampledSlot c (sampleOf c l)) → P (next c (Slot l))
+-- a slot leaves the memory map as it is, or it is sampled
+pub slot-cases : (c : Controller) (l : ℕ) (P : List ℕ → Type 0) → P (c .memory) → P (sampledSlot c (sampleOf c l) .memory) → P (next c (Slot l) .memory)
 slot-cases c l P same sampled = go (step-of c (Slot l))
   where
-    go : Step c (Slot l) → P (next c (Slot l))
-    go (steps.refusal n h) = subst P (sym (refused-next c none (Slot l) n h)) same
+    Q : Controller → Type 0
+    Q x = P (x .memory)
+
+    go : Step c (Slot l) → P (next c (Slot l) .memory)
+    go (steps.refusal n h) = subst Q (sym (refused-next c none (Slot l) n h)) same
     go (steps.went a h) =
-        let n : next c (Slot l) ≡ sampledSlot c (sampleOf c l) = unfold answered activeSlot in accepted-next c none (Slot l) _ (activeSlot c l) h in
-        subst P (sym n) sampled
+        subst Q (sym (went-next c none l h)) sampled
     go (steps.rested a h) =
-        let n : next c (Slot l) ≡ c = unfold restedSlot in accepted-next c none (Slot l) _ c h in
-        subst P (sym n) same
+        subst Q (sym (rested-next c none l h)) same
 
 -- an accepted slot of an active controller is sampled
-pub slot-sampled : (c : Controller) (l : ℕ) → accepted c (Slot l) ≡ true → isActive (c .core .activity .mode) ≡ true → next c (Slot l) ≡ sampledSlot c (sampleOf c l)
+pub slot-sampled : (c : Controller) (l : ℕ) → accepted c (Slot l) ≡ true → isActive (c .core .activity .mode) ≡ true → next c (Slot l) ≡ withDiagnosisC (sampledSlot c (sampleOf c l)) (activeSlot c l .core .diagnosis)
 slot-sampled c l i j = go (step-of c (Slot l))
   where
-    go : Step c (Slot l) → next c (Slot l) ≡ sampledSlot c (sampleOf c l)
+    go : Step c (Slot l) → next c (Slot l) ≡ withDiagnosisC (sampledSlot c (sampleOf c l)) (activeSlot c l .core .diagnosis)
     go (steps.refusal n h) = absurd (false≢true (sym (refused-not c none (Slot l) n h) ∙ i))
-    go (steps.went a h) = unfold answered activeSlot in accepted-next c none (Slot l) _ (activeSlot c l) h
+    go (steps.went a h) = went-next c none l h
     go (steps.rested a h) = absurd (false≢true (sym a ∙ j))
 
 -- ---- what a sample is for the reply, and for the attempt beside it
@@ -410,7 +411,7 @@ module _ (c : Controller) (a v : ℕ) where
   unfolding byteWritten stoppedCore idleDue
   byte-left = go (j .activity .waiting) (serving (j .service))
     where
-      go : (x y : Bool) → LeftReply c (record { memory = memoryEnded (stopped t) (keptByte (c .memory) a v) (c .core .service .channel); core = pick x (pick y j (idled j)) j })
+      go : (x y : Bool) → LeftReply c (record { memory = memoryEnded (stopped t) (keptByte (c .memory) a v) (c .core .service .channel); core = withDiagnosis (pick x (pick y j (idled j)) j) (diagnosisWritten (c .memory) (c .core .diagnosis) a v) })
       go true true = kept (written-reply (c .core) a v)
       go true false = dropped (unfold idled in none-left)
       go false y = kept (written-reply (c .core) a v)
@@ -489,7 +490,7 @@ module _ (c : Controller) (l : ℕ) where
       → sampledSlot c v .memory ≡ memoryEnded (ending (c .core) (verdict (c .core) v) (heard (c .core) (verdict (c .core) v) v)) (c .memory) (c .core .service .channel)
       → P (next c (Slot l) .memory)
   by-map P same end e =
-      slot-cases c l (λ x. P (x .memory)) same (subst P (sym e) (end (ending (c .core) (verdict (c .core) v) (heard (c .core) (verdict (c .core) v) v))))
+      slot-cases c l P same (subst P (sym e) (end (ending (c .core) (verdict (c .core) v) (heard (c .core) (verdict (c .core) v) v))))
 
   pub own : Own c l
   own =
@@ -504,7 +505,7 @@ module _ (c : Controller) (l : ℕ) where
           by-map (λ m. getD m (statusAt c) 0 % 2 ≡ getD (c .memory) (statusAt c) 0 % 2) refl
               (λ x. ended-keeps (λ s. s % 2) cher-chrx chtx-chrx x (c .memory) (c .core .service .channel)) (own-map c v d),
         );
-        going = λ d e. slot-cases c l (λ x. x .memory ≡ c .memory) refl
+        going = λ d e. slot-cases c l (λ x. x ≡ c .memory) refl
             (own-map c v d ∙ ap (λ (x : Ending). memoryEnded x (c .memory) (c .core .service .channel)) e ∙ (unfold memoryEnded in refl));
         first = λ d e. own-recessive (c .core) d (omega arith);
         second = λ d e. own-recessive (c .core) d (omega arith);
@@ -519,11 +520,11 @@ module _ (c : Controller) (l : ℕ) where
     -- and where it changes nothing but by the end of the reply
     by-reply : (P : List ℕ → Type 0) → P (c .memory) → ((q : Verdict) → P (memoryReplied q (c .memory) (c .core .reply .channel))) → replies c ≡ true → P (next c (Slot l) .memory)
     by-reply P same end g =
-        slot-cases c l (λ x. P (x .memory)) same (subst P (sym (reply-map c v s (steady-role (c .core) s g))) (end (replyVerdict (roleIn (c .core)) (c .core) v)))
+        slot-cases c l P same (subst P (sym (reply-map c v s (steady-role (c .core) s g))) (end (replyVerdict (roleIn (c .core)) (c .core) v)))
 
     reply-same : (q : Verdict) → memoryReplied q (c .memory) (c .core .reply .channel) ≡ c .memory → replies c ≡ true → replyVerdict (roleIn (c .core)) (c .core) v ≡ q → next c (Slot l) .memory ≡ c .memory
     reply-same q n g e =
-        slot-cases c l (λ x. x .memory ≡ c .memory) refl
+        slot-cases c l (λ x. x ≡ c .memory) refl
         (reply-map c v s (steady-role (c .core) s g) ∙ ap (λ (x : Verdict). memoryReplied x (c .memory) (c .core .reply .channel)) e ∙ n)
 
     pub own-reply : OwnReply c l

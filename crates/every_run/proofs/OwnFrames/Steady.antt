@@ -11,7 +11,8 @@ use lib.Dec.{eqb, ltb}
 use lib.ListN.{getD}
 use Rattle.line.specs.Bits.{pick}
 use Rattle.line.proofs.Laws.{picked, pick-same}
-use Rattle.rules.specs.Definitions.Setters.{withActivity, withReport, withLine, withService}
+use Rattle.diagnosis.specs.declared.Diagnosis.{Diagnosis}
+use Rattle.rules.specs.Definitions.Setters.{withActivity, withReport, withLine, withService, withDiagnosis}
 use Rattle.rules.specs.Definitions.Longest.{capacity, mostNibbles, longestOf}
 use Rattle.rules.specs.Definitions.Registers.{both, command, interruptReset, transmitControl, retrySetting, autonomous, asksIdle, asksActivation, asksRearbitration}
 use Rattle.rules.specs.Definitions.Channels.{lowestReady}
@@ -29,7 +30,7 @@ use Rattle.every_run.proofs.Judged.{Judged, went, lost, broke, done, sl
 use Rattle.every_run.proofs.Judged as judged
 use Rattle.every_run.proofs.Roles.{RoleIs, sends, asks, replying, receives, rests, role-is, role-replier, heard-replier}
 use Rattle.every_run.proofs.Steps as steps
-use Rattle.every_run.proofs.Steps.{Step, step-of, refused-next, accepted-next}
+use Rattle.every_run.proofs.Steps.{Step, step-of, refused-next, accepted-next, went-next, rested-next}
 use Rattle.every_run.proofs.Sending.Follow.{idle-service, choice-activity, choice-reception, choice-reply}
 use Rattle.rules.specs.declared.Line.{Line}
 use Rattle.rules.specs.declared.Phase.{Phase}
@@ -471,6 +472,10 @@ written-steady c a v s =
     picked SteadyAt (resets a v) (resetAll c) _ (λ e. unfold resetAll in reset-steady)
     (λ e. picked SteadyAt (sleeps a v) _ (byteWritten c a v) (λ d. slept-steady (c .core)) (λ d. byte-steady c a v s))
 
+-- it does not look at the diagnosis
+beside-steady : (k : Core) (x : Diagnosis) → Steady k → Steady (withDiagnosis k x)
+beside-steady k x s = record { still = s .still; idles = s .idles; beside = s .beside }
+
 pub steady-next : (c : Controller) (e : Event) → Steady (c .core) → Steady (next c e .core)
 steady-next c e s = go e (step-of c e)
   where
@@ -483,11 +488,9 @@ steady-next c e s = go e (step-of c e)
     go (Write a v) (steps.wrote h) = to (Write a v) (accepted-next c none (Write a v) 0 (hostWritten c a (v % 256)) h) (written-steady c a (v % 256) s)
     go (Read a) (steps.gave value h) = to (Read a) (accepted-next c none (Read a) value c h) s
     go (Slot l) (steps.went a h) =
-        let n : next c (Slot l) ≡ sampledSlot c (sampleOf c l) = unfold answered activeSlot in accepted-next c none (Slot l) _ (activeSlot c l) h in
-        to (Slot l) n (sampled-steady c (sampleOf c l) s)
+        to (Slot l) (went-next c none l h) (beside-steady _ _ (sampled-steady c (sampleOf c l) s))
     go (Slot l) (steps.rested a h) =
-        let n : next c (Slot l) ≡ c = unfold restedSlot in accepted-next c none (Slot l) _ c h in
-        to (Slot l) n s
+        to (Slot l) (rested-next c none l h) (beside-steady (c .core) _ s)
 
 pub steady-fresh : Steady (fresh .core)
 unfolding fresh resetAll

@@ -4,9 +4,12 @@ use Prim.Native.Nat.{_≤_, _-_}
 use mathlib.Core.Bool.{true}
 use mathlib.Core.Path.{_≡_}
 use borrow.Author.Tests.{le-leb}
+use lib.ListN.{getD}
 use Rattle.line.specs.Bits.{Below}
 use Rattle.line.specs.Frame.{size}
 use Rattle.rules.specs.Definitions.Longest.{capacity, mostNibbles}
+use Rattle.diagnosis.proofs.Limits as diagnosis
+use Rattle.rules.specs.Definitions.Registers.{diagnosisControl}
 use Rattle.rules.specs.Definitions.State.{ranges, within, inRange}
 use Rattle.rules.specs.declared.Winner.{Winner}
 use Rattle.rules.specs.declared.Retries.{Retries}
@@ -72,9 +75,9 @@ pub record Fine (c : Controller) : Type 0 where
 
 -- ---- the facts make the test hold, row by row
 
-pub limits-in-range : (k : Core) → Limits k → inRange k ≡ true
+pub limits-in-range : (c : Controller) → Limits (c .core) → diagnosis.Limits (getD (c .memory) diagnosisControl 0) (c .core .diagnosis) → inRange c ≡ true
 unfolding inRange within ranges
-limits-in-range k l =
+limits-in-range c l d =
     rw (
       le-leb _ _ (l .report .sending .count),
       le-leb _ _ (l .report .sending .channel),
@@ -96,4 +99,10 @@ limits-in-range k l =
       le-leb _ _ (l .reply .channel),
       le-leb _ _ (l .reply .at),
       le-leb _ _ (l .reply .n),
+      le-leb _ _ (d .levels),
+      le-leb _ _ (d .dominant),
+      le-leb _ _ (d .slots),
+      le-leb _ _ (d .rxd1),
+      le-leb _ _ (d .rxd2),
+      le-leb _ _ (d .connected),
     )

@@ -1,5 +1,5 @@
 -- Every controller that a fresh one reaches is fine: none is refused with number 6. A refused event changes nothing.
---   fine-fresh, fine-next, fine-after == every reached controller is fine        never-six == so its numbers are in range, and never-refused-six
+--   fine-fresh, fine-next, fine-after == every reached controller is fine        in-range-other == a controller in range is never refused with 6 (Never6.antt: none that is reached is)
 --   refused-same, refused-value == a refusal leaves the controller as it is, with zero elsewhere
 use Prim.Native.Nat.{ℕ, _%_, _≤_, _<_}
 use mathlib.Core.Bool.{Bool, true, false, not, false≢true}
@@ -11,7 +11,8 @@ use lib.Dec.{eqb}
 use lib.ListN.{getD, set}
 use Rattle.line.specs.Bits.{Below}
 use Rattle.line.proofs.Laws.{picked}
-use Rattle.rules.specs.Definitions.Setters.{withActivity, withReport, withService}
+use Rattle.diagnosis.specs.declared.Diagnosis.{Diagnosis}
+use Rattle.rules.specs.Definitions.Setters.{withActivity, withReport, withService, withDiagnosis}
 use Rattle.rules.specs.Definitions.Longest.{longestOf}
 use Rattle.rules.specs.Definitions.Registers.{both, command, interruptReset, transmitControl, autonomous, writeOnly, asksIdle, asksActivation, asksRearbitration, resetReport, CV, BOV}
 use Rattle.rules.specs.Definitions.Reception.{unsettled, readsAsked}
@@ -19,17 +20,17 @@ use Rattle.rules.specs.Definitions.Hearing.{hearFrame}
 use Rattle.rules.specs.Definitions.Delivery.{deliveryOf}
 use Rattle.rules.specs.Definitions.Service.{endingOf, goodFor, answeredAs, fulfils, judgeReply, replyTaken, stopped, choose, aborts, abortAsked, rearAsked}
 use Rattle.rules.specs.Definitions.State.{inRange, isActive, serving, inMode, resetCore, idled, idleDue, slept, idleAsked, activated}
-use Rattle.rules.specs.Definitions.Slots.{roleIn, replyVerdict, heardAs, heard, delivers, verdictAs, verdict, serviceJudged, ending, receptionJudged, reportAfter, memoryJudged, replyAfter, coreJudged, chooses, choiceMade, startMade, followsOn, sampleOf, judgedSlot, sampledSlot, activeSlot}
+use Rattle.rules.specs.Definitions.Slots.{roleIn, replyVerdict, heardAs, heard, delivers, verdictAs, verdict, serviceJudged, ending, receptionJudged, reportAfter, memoryJudged, replyAfter, coreJudged, chooses, choiceMade, startMade, followsOn, sampleOf, judgedSlot, sampledSlot, diagnosedSlot, activeSlot, restingSlot}
 use Rattle.rules.specs.Definitions.Host.{resetAll, resets, sleeps, modeCommanded, rearCommanded, keptByte, flagsCleared, coreWritten, serviceAsked, stoppedCore, byteWritten, hostWritten, byteRead, accessRefusals, writeRefusals, readRefusals}
 use Rattle.rules.specs.Definitions.Answers.{number}
 use Rattle.rules.specs.Definitions.Run.{fresh, refuse, accept, unlessRefused, pinReset, hostWrite, hostRead, answered, restedSlot, slot, step, next, after}
-use Rattle.every_run.proofs.Ranges.Limits.{ReplyLimits, RetriesLimits, ReportLimits, Fine, limits-in-range}
+use Rattle.every_run.proofs.Ranges.Limits.{ReplyLimits, RetriesLimits, ReportLimits, Fine}
 use Rattle.every_run.proofs.Ranges.Bytes.{set-below, zeros-below, reset-below}
 use Rattle.every_run.proofs.Ranges.Reception.{Received, quiet-received, judged-received, line-small, Heard, silent, follows, fault, good, frame-heard, quiet-heard, heard-report, delivered-report, delivered-below}
 use Rattle.rules.proofs.Logic.{both-true}
 use Rattle.every_run.proofs.Judged.{slot-judged, Awaited, on, broken, fulfilled, Tried, unjudged, judged, awaited}
 use Rattle.every_run.proofs.Ranges.Service.{Served, resting-served, own-heard, slot-heard, Spent, served-spent, judged-spent, Ends, fulfilment, stopped-ends, ending-ends, settled-served, ended-below, replied-below, sending-report, judged-report, ended-report, replied-report, none-replies, replied-limits, taken-limits, choose-served, started-served, abort-served, rear-served}
-use Rattle.every_run.proofs.Steps.{Call, refused, taken, call-of}
+use Rattle.every_run.proofs.Steps.{Call, refused, taken, call-of, resting-cases}
 use Rattle.rules.specs.declared.Report.{Report}
 use Rattle.rules.specs.declared.Service.{Service}
 use Rattle.rules.specs.declared.Hearing.{Hearing}
@@ -214,9 +215,24 @@ sampled-fine : (c : Controller) (v : ℕ) → Fine c → Fine (sampledSlot c v)
 unfolding sampledSlot
 sampled-fine c v f = let j = verdict-tried (c .core) v in judged-fine c _ v f j (is-heard (c .core) v j)
 
+-- what a fine controller keeps does not look at the diagnosis
+beside-fine : (c : Controller) (x : Diagnosis) → Fine c → Fine (record { memory = c .memory; core = withDiagnosis (c .core) x })
+beside-fine c x f =
+    let l = f .limits in
+    record {
+      memory = f .memory;
+      received = f .received;
+      limits = record { report = l .report; line = l .line; reception = l .reception; service = l .service; reply = l .reply };
+      retries = f .retries;
+    }
+
 active-fine : (c : Controller) (levels : ℕ) → Fine c → Fine (activeSlot c levels)
-unfolding activeSlot
-active-fine c levels f = sampled-fine c (sampleOf c levels) f
+unfolding activeSlot diagnosedSlot
+active-fine c levels f = beside-fine (sampledSlot c (sampleOf c levels)) _ (sampled-fine c (sampleOf c levels) f)
+
+resting-fine : (c : Controller) (levels : ℕ) → Fine c → Fine (restingSlot c levels)
+unfolding diagnosedSlot
+resting-fine c levels f = resting-cases Fine c levels f (beside-fine c _ f)
 
 -- ---- reset
 
@@ -283,8 +299,9 @@ byte-fine : (c : Controller) (address v : ℕ) → v < 256 → Fine c → Fine (
 unfolding byteWritten
 byte-fine c address v h f =
     let k = fine-core c f in
-    core-fine _ (ended-below _ (kept-below (f .memory) address v h) (c .core .service .channel))
-    (stopped-kept _ _ (written-kept (c .core) address v k) (asked-served (c .core .service) address v (k .service)))
+    beside-fine (record { memory = _; core = _ }) _
+    (core-fine _ (ended-below _ (kept-below (f .memory) address v h) (c .core .service .channel))
+    (stopped-kept _ _ (written-kept (c .core) address v k) (asked-served (c .core .service) address v (k .service))))
 
 written-fine : (c : Controller) (address v : ℕ) → v < 256 → Fine c → Fine (hostWritten c address v)
 unfolding hostWritten
@@ -307,7 +324,7 @@ fine-next c (Write address value) f =
 fine-next c (Read address) f = fine-called c _ _ f f (call-of c _ (accept (byteRead c address) c))
 fine-next c (Slot levels) f =
     fine-called c _ _ f
-    (picked (λ (y : Answer). Fine (y .next)) (isActive (c .core .activity .mode)) (answered (activeSlot c levels)) (restedSlot c) (λ a. active-fine c levels f) (λ a. f))
+    (picked (λ (y : Answer). Fine (y .next)) (isActive (c .core .activity .mode)) (answered (activeSlot c levels)) (restedSlot (restingSlot c levels)) (λ a. active-fine c levels f) (λ a. resting-fine c levels f))
     (call-of c _ _)
 
 pub fine-fresh : Fine fresh
@@ -323,9 +340,6 @@ pub fine-after : (es : List Event) → Fine (after fresh es)
 fine-after es = fine-from fresh es fine-fresh
 
 -- ---- number 6
-
-pub never-six : (es : List Event) → inRange (after fresh es .core) ≡ true
-never-six es = limits-in-range (after fresh es .core) (fine-after es .limits)
 
 abbrev Other : ℕ → Type 0
 Other n = n ≡ 6 → ⊥
@@ -346,23 +360,20 @@ others c (r ∷ rs) a s h =
     picked (λ (x : Answer). Other (x .refused)) (r .0) (refuse c (r .1)) (unlessRefused c rs a) (λ e. other (r .1) (b .0)) (λ e. others c rs a (b .1) h)
 
 -- the first refusal of every call is 6, where a number is not in range
-others-in-range : (c : Controller) (rs : List (Bool × Refusal)) (a : Answer) → inRange (c .core) ≡ true → sixless rs ≡ true → Other (a .refused)
-    → Other (unlessRefused c ((not (inRange (c .core)), Range) ∷ rs) a .refused)
+others-in-range : (c : Controller) (rs : List (Bool × Refusal)) (a : Answer) → inRange c ≡ true → sixless rs ≡ true → Other (a .refused)
+    → Other (unlessRefused c ((not (inRange c), Range) ∷ rs) a .refused)
 unfolding unlessRefused
 others-in-range c rs a i s h = rw i (others c rs a s h)
 
 -- a controller in range is never refused with 6
-pub in-range-other : (c : Controller) (e : Event) → inRange (c .core) ≡ true → step c e .refused ≡ 6 → ⊥
+pub in-range-other : (c : Controller) (e : Event) → inRange c ≡ true → step c e .refused ≡ 6 → ⊥
 unfolding step pinReset hostWrite hostRead slot answered restedSlot accept accessRefusals writeRefusals readRefusals number
 in-range-other c Reset h = others-in-range c _ _ h refl (λ d. omega arith)
 in-range-other c (Write address value) h = others-in-range c _ _ h refl (λ d. omega arith)
 in-range-other c (Read address) h = others-in-range c _ _ h refl (λ d. omega arith)
 in-range-other c (Slot levels) h =
     others-in-range c _ _ h refl
-    (picked (λ (x : Answer). Other (x .refused)) (isActive (c .core .activity .mode)) (answered (activeSlot c levels)) (restedSlot c) (λ i d. omega arith) (λ i d. omega arith))
-
-pub never-refused-six : (es : List Event) (e : Event) → step (after fresh es) e .refused ≡ 6 → ⊥
-never-refused-six es e = in-range-other (after fresh es) e (never-six es)
+    (picked (λ (x : Answer). Other (x .refused)) (isActive (c .core .activity .mode)) (answered (activeSlot c levels)) (restedSlot (restingSlot c levels)) (λ i d. omega arith) (λ i d. omega arith))
 
 -- ---- a refusal
 
@@ -383,7 +394,7 @@ unchanged c (Write address value) = unchanged-called c _ _ refl (call-of c _ _)
 unchanged c (Read address) = unchanged-called c _ _ refl (call-of c _ _)
 unchanged c (Slot levels) =
     unchanged-called c _ _
-    (picked (λ (y : Answer). y .refused ≡ 0) (isActive (c .core .activity .mode)) (answered (activeSlot c levels)) (restedSlot c) (λ a. refl) (λ a. refl))
+    (picked (λ (y : Answer). y .refused ≡ 0) (isActive (c .core .activity .mode)) (answered (activeSlot c levels)) (restedSlot (restingSlot c levels)) (λ a. refl) (λ a. refl))
     (call-of c _ _)
 
 pub refused-same : (c : Controller) (e : Event) → (step c e .refused ≡ 0 → ⊥) → step c e .next ≡ c

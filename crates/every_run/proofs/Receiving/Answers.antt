@@ -314,9 +314,9 @@ module _ (c : Controller) (t : Tally) (l : Log) (f : Fine c) (j : Joined c t) (k
       (rw (accepted-so c t (Slot levels) _ (activeSlot c levels) h, accepted-tally c t (Slot levels) _ (activeSlot c levels) h, a)
       (slot-aligned c t l (k .logs) j (sampleOf c levels) (next c (Slot levels) .memory) (next c (Slot levels)) (k .aligned)))
 
-  rest-kept : (levels : ℕ) → isActive (c .core .activity .mode) ≡ false → step c (Slot levels) ≡ restedSlot c → Kept (next c (Slot levels)) (nextT c t (Slot levels)) (logNext c l (Slot levels))
+  rest-kept : (levels : ℕ) → isActive (c .core .activity .mode) ≡ false → step c (Slot levels) ≡ restedSlot (slot-rule.restingSlot c levels) → Kept (next c (Slot levels)) (nextT c t (Slot levels)) (logNext c l (Slot levels))
   unfolding restedSlot followT logIn
-  rest-kept levels a h = keeps (Slot levels) (rw (accepted-so c t (Slot levels) _ c h, accepted-tally c t (Slot levels) _ c h, a) (k .aligned))
+  rest-kept levels a h = keeps (Slot levels) (rw (accepted-so c t (Slot levels) _ (slot-rule.restingSlot c levels) h, accepted-tally c t (Slot levels) _ (slot-rule.restingSlot c levels) h, a) (k .aligned))
 
   pub kept-next : (e : Event) → Kept (next c e) (nextT c t e) (logNext c l e)
   kept-next e = go e (step-of c e)

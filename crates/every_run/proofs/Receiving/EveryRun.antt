@@ -23,8 +23,9 @@ use Rattle.every_run.proofs.Receiving.InvariantFrames.{start-long, ackn
 use Rattle.every_run.proofs.Receiving.InvariantLaws.{invariant-silent, invariant-header, invariant-good, invariant-last, invariant-fault, invariant-acknowledges}
 use Rattle.rules.specs.Definitions.Delivery.{deliveryTo, delivered, deliveryOf, memoryStored, memoryDelivered, reportHeard, reportDelivered, reportStored, receiveError}
 use Rattle.rules.specs.Definitions.Attempt.{drivesFrame, advance, isAnswered}
-use Rattle.rules.specs.Definitions.Service.{stopped, endingOf, memoryEnded, reportJudged, reportEnded, reportSending, goodFor, answeredAs, fulfils, memoryReplied, reportReplied, receives}
+use Rattle.rules.specs.Definitions.Service.{stopped, endingOf, memoryEnded, reportJudged, reportEnded, reportSending, goodFor, answeredAs, fulfils, memoryReplied, reportReplied, receives, ownFrame}
 use Rattle.rules.specs.Definitions.State.{isActive, inMode, serving, idled, idleDue}
+use Rattle.diagnosis.specs.declared.Diagnosis.{Diagnosis}
 use Rattle.rules.specs.Definitions.Longest.{longestOf}
 use Rattle.rules.specs.Definitions.Registers.{BOV, CV}
 use Rattle.rules.specs.declared.Report.{Report}
@@ -33,13 +34,12 @@ use Rattle.rules.specs.Definitions.Run.{fresh, answered, next}
 use Rattle.every_run.specs.Tally.{Tally, none}
 use Rattle.every_run.specs.Observer.{accepted}
 use Rattle.every_run.proofs.Sending.Beside.{nextT}
-use Rattle.every_run.proofs.Steps.{Step, refusal, went, rested, step-of, refused-not, accepted-next}
+use Rattle.every_run.proofs.Steps.{Step, refusal, went, rested, withDiagnosisC, step-of, refused-not, went-next}
 use Rattle.every_run.proofs.Sending.Follow.{follows-activity, follows-reception, follows-error}
 use Rattle.every_run.proofs.Ranges.Limits.{Fine}
 use Rattle.every_run.proofs.Ranges.Reach.{fine-fresh, fine-next}
 use Rattle.every_run.proofs.Sending.Demand3.{Joined, joined-next, joined-fresh}
 use Rattle.every_run.specs.Receiving.{Log, noLog, storedBytes, storedFrame, received, errorAfter, logNext, taker, hears, Taken, Delivers, role, Heeds, DeliversIn, Owing, Acknowledges, ReceivingOver, untakenCode}
-use Rattle.every_run.specs.Interrupts.{ownFrame}
 use Rattle.every_run.proofs.Roles as roles
 use Rattle.every_run.proofs.Roles.{RoleIs, sends, asks, rests, role-is}
 use Rattle.every_run.proofs.Receiving.Log.{At, Following, apart, driving, none-wins, receiving, starting}
@@ -199,10 +199,9 @@ early-memory m r h n a i = go h n
 -- ---- the claims
 
 active-next : (c : Controller) (t : Tally) (levels : ℕ) → accepted c (Slot levels) ≡ true → isActive (c .core .activity .mode) ≡ true → Step c (Slot levels)
-    → next c (Slot levels) ≡ sampledSlot c (sampleOf c levels)
-unfolding answered activeSlot
+    → next c (Slot levels) ≡ withDiagnosisC (sampledSlot c (sampleOf c levels)) (activeSlot c levels .core .diagnosis)
 active-next c t levels y a (refusal n h) = absurd (false≢true (sym (refused-not c t (Slot levels) n h) ∙ y))
-active-next c t levels y a (went b h) = accepted-next c t (Slot levels) _ (activeSlot c levels) h
+active-next c t levels y a (went b h) = went-next c t levels h
 active-next c t levels y a (rested b h) = absurd (false≢true (sym b ∙ a))
 
 -- ---- a slot, whoever sends
@@ -295,7 +294,7 @@ receives-hears Asker e k w v = refl
 receives-hears Replier e k w v = absurd (false≢true e)
 
 module _ (c : Controller) (t : Tally) (levels : ℕ) (y : accepted c (Slot levels) ≡ true) (a : isActive (c .core .activity .mode) ≡ true) where
-  slot-next : next c (Slot levels) ≡ sampledSlot c (sampleOf c levels)
+  slot-next : next c (Slot levels) ≡ withDiagnosisC (sampledSlot c (sampleOf c levels)) (activeSlot c levels .core .diagnosis)
   slot-next = active-next c t levels y a (step-of c (Slot levels))
 
   abbrev v : ℕ
@@ -309,7 +308,8 @@ module _ (c : Controller) (t : Tally) (levels : ℕ) (y : accepted c (Slot level
 
   heeds-kept : hears c levels ≡ hearing.Follows → isActive (next c (Slot levels) .core .activity .mode) ≡ true → underWay (next c (Slot levels) .core .reception .place) ≡ true
   heeds-kept h =
-      let n : next c (Slot levels) ≡ judgedSlot c w q hearing.Follows v = slot-next ∙ (unfold sampledSlot in ap (λ (x : Hearing). judgedSlot c w q x v) h) in
+      let d : Diagnosis = activeSlot c levels .core .diagnosis in
+      let n : next c (Slot levels) ≡ withDiagnosisC (judgedSlot c w q hearing.Follows v) d = slot-next ∙ (unfold sampledSlot in ap (λ (x : Hearing). withDiagnosisC (judgedSlot c w q x v) d) h) in
       rw n (kept-judged c w q v)
 
   slot-memory : next c (Slot levels) .memory ≡ memoryJudged (c .memory) (c .core) w q (hears c levels)

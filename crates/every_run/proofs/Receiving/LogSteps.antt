@@ -20,14 +20,14 @@ use Rattle.every_run.proofs.Receiving.InvariantLaws.{invariant-under-wa
 use Rattle.rules.specs.Definitions.Attempt.{atStage, betweenAttempts, isBetween, drivesFrame, isDriving, noCounts, inService, isServing, waits, isWaiting, exhausted, isAnswered, isAnswering}
 use Rattle.rules.specs.Definitions.Service.{resting, stopped, settled, reportSending, reportEnded, chosen, choiceOf, choose, opened, started, noReply, fulfils}
 use Rattle.rules.specs.Definitions.State.{isActive, serving, resetCore, idled, idleDue, slept}
-use Rattle.rules.specs.Definitions.Slots.{heard, ending, memoryJudged, coreJudged, chooses, choiceMade, startMade, followsOn, sampleOf, judgedSlot, sampledSlot, activeSlot, roleIn, replyVerdict, heardAs, delivers, verdictAs, verdict}
+use Rattle.rules.specs.Definitions.Slots.{heard, ending, memoryJudged, coreJudged, chooses, choiceMade, startMade, followsOn, sampleOf, judgedSlot, sampledSlot, activeSlot, restingSlot, roleIn, replyVerdict, heardAs, delivers, verdictAs, verdict}
 use Rattle.rules.specs.Definitions.Host.{resetAll, resets, sleeps, coreWritten, serviceAsked, stoppedCore, byteWritten, hostWritten}
 use Rattle.rules.specs.Definitions.Run.{accept, restedSlot, step, next}
 use Rattle.rules.specs.Definitions.Run as run
 use Rattle.every_run.specs.Tally.{Stand, away, between, opening, inside, Tally, isAway, answered}
 use Rattle.every_run.specs.Observer.{accepted}
 use Rattle.every_run.proofs.Sending.Join.{made, serviceIn, serviceOf}
-use Rattle.every_run.proofs.Steps.{Step, refusal, reset, wrote, gave, went, rested, refused-next, refused-not, accepted-next}
+use Rattle.every_run.proofs.Steps.{Step, refusal, reset, wrote, gave, went, rested, withDiagnosisC, went-next, rested-next, refused-next, refused-not, accepted-next}
 use Rattle.every_run.proofs.Sending.Demand3.{Joined}
 use Rattle.rules.proofs.Samples.{sample-small}
 use Rattle.every_run.proofs.Roles.{role-sender}
@@ -373,10 +373,10 @@ module _ (c : Controller) (t : Tally) (l : Log) (i : Logs c l) (j : Joined c t) 
       follows-stands (sampledLog l v m) m (coreJudged m (c .core) w q h v) (judged-logs v small m b)
 
   slot-logs : (levels : ℕ) → isActive (c .core .activity .mode) ≡ true → step c (Slot levels) ≡ run.answered (activeSlot c levels) → Logs (next c (Slot levels)) (logNext c l (Slot levels))
-  unfolding run.answered activeSlot logIn
+  unfolding run.answered logIn
   slot-logs levels a h =
       let v : ℕ = sampleOf c levels in
-      let n : next c (Slot levels) ≡ sampledSlot c v = accepted-next c t (Slot levels) _ (activeSlot c levels) h in
+      let n : next c (Slot levels) ≡ withDiagnosisC (sampledSlot c v) (activeSlot c levels .core .diagnosis) = went-next c t levels h in
       let y : accepted c (Slot levels) ≡ true = is-accepted c l (Slot levels) _ (activeSlot c levels) h in
       logs-next c l (Slot levels) {n = sampledLog l v (sampledSlot c v .memory)} (rw n (sampled-logs v (sample-small c levels) (subst (λ (x : Controller). Below 256 (x .memory)) n (below (Slot levels))))) (rw (y, a, n))
 
@@ -390,4 +390,4 @@ module _ (c : Controller) (t : Tally) (l : Log) (i : Logs c l) (j : Joined c t) 
   next-logs (Read a) (gave value h) = plain-next c l (Read a) c (accepted-next c t (Read a) value c h) (i .stands) (is-accepted c l (Read a) value c h) (unfold logIn in refl)
   next-logs (Slot levels) (went a h) = slot-logs levels a h
   next-logs (Slot levels) (rested a h) =
-      plain-next c l (Slot levels) c (unfold restedSlot in accepted-next c t (Slot levels) _ c h) (i .stands) (unfold restedSlot in is-accepted c l (Slot levels) _ c h) (unfold logIn in rw a)
+      plain-next c l (Slot levels) (withDiagnosisC c (restingSlot c levels .core .diagnosis)) (rested-next c t levels h) (i .stands) (unfold restedSlot in is-accepted c l (Slot levels) _ (restingSlot c levels) h) (unfold logIn in rw a)

@@ -18,7 +18,7 @@ use Rattle.rules.specs.Definitions.Attempt.{levelAt, judgeSlot, drivesFrame, is
 use Rattle.rules.specs.Definitions.Service.{resting, stopped, endingOf, settled, goodFor, answeredAs, fulfils}
 use Rattle.rules.specs.Definitions.Longest.{capacity, longestOf}
 use Rattle.rules.specs.Definitions.State.{isActive, resetCore, slept}
-use Rattle.rules.specs.Definitions.Slots.{roleIn, replyVerdict, heardAs, heard, delivers, verdictAs, verdict, serviceJudged, ending, memoryJudged, coreJudged, drivesAs, drives, sampleOf, judgedSlot, sampledSlot, activeSlot}
+use Rattle.rules.specs.Definitions.Slots.{roleIn, replyVerdict, heardAs, heard, delivers, verdictAs, verdict, serviceJudged, ending, memoryJudged, coreJudged, drivesAs, drives, sampleOf, judgedSlot, sampledSlot, activeSlot, restingSlot}
 use Rattle.rules.specs.Definitions.Host.{resetAll, resets, sleeps, coreWritten, serviceAsked, byteWritten, hostWritten}
 use Rattle.rules.specs.Definitions.Run as run
 use Rattle.rules.specs.Definitions.Run.{fresh, restedSlot, step, next}
@@ -37,7 +37,8 @@ use Rattle.every_run.specs.Settled.{exhaustedIn}
 use Rattle.every_run.specs.Sending.{Drives, InSlot, te}
 use Rattle.every_run.proofs.Sending.Beside.{answerC, seenIn, followT, afterSlot, endedC, seenT, nextT, Holds}
 use Rattle.every_run.proofs.Sending.Frames.{level-coded}
-use Rattle.every_run.proofs.Steps.{Step, refusal, reset, wrote, gave, went, rested, refused-next, refused-seen, refused-tally, refused-not, accepted-next, accepted-seen, accepted-tally}
+use Rattle.every_run.proofs.Steps.{Step, refusal, reset, wrote, gave, went, rested, withDiagnosisC, refused-next, refused-seen, refused-tally, refused-not, accepted-next, accepted-seen, accepted-tally, went-next, rested-next}
+use Rattle.diagnosis.specs.declared.Diagnosis.{Diagnosis}
 use Rattle.every_run.proofs.Sending.Bound.{Good, levelIn, Coming, drives-in, bounded-now, good-none, pick-good, ended-good, counted-good, after-good, asked-good}
 use Rattle.rules.specs.declared.Line.{Line}
 use Rattle.rules.specs.declared.Reception.{Reception}
@@ -364,6 +365,11 @@ module _ (c : Controller) (t : Tally) (e : Event) (j : Joined c t) (same : seenT
 moved : {c d : Controller} {t u : Tally} → c ≡ d → t ≡ u → Joined d u → Joined c t
 moved {c} {d} {t} {u} p q j = subst (λ (x : Controller). Joined x t) (sym p) (subst (λ (x : Tally). Joined d x) (sym q) j)
 
+-- the tally does not look at the diagnosis
+pub after-beside : (t : Tally) (c : Controller) (x : Diagnosis) → afterSlot t (withDiagnosisC c x) ≡ afterSlot t c
+unfolding afterSlot
+after-beside t c x = refl
+
 -- the slot of error R + 1, by the counts of a judged slot
 only-then : (b : Bool) (x : Bool) → x ≡ false → pick b true x ≡ true → b ≡ true
 only-then true x e h = refl
@@ -374,7 +380,7 @@ module _ (c : Controller) (t : Tally) (j : Joined c t) (f : Fine c) (y : (v : �
   slot-claim : (l : ℕ) → isActive (c .core .activity .mode) ≡ true → step c (Slot l) ≡ run.answered (activeSlot c l) → Holds c t (Slot l)
   slot-claim l a h =
       let v : ℕ = sampleOf c l in
-      let n : next c (Slot l) ≡ sampledSlot c v = unfold activeSlot run.answered in accepted-next c t (Slot l) _ (activeSlot c l) h in
+      let n : next c (Slot l) ≡ withDiagnosisC (sampledSlot c v) (activeSlot c l .core .diagnosis) = went-next c t l h in
       let i : seenIn c t (Slot l) ≡ countedT t (drives (c .core)) v (answerC c v) = unfold seenIn in rw a in
       let o : seenT c t (Slot l) ≡ seenIn c t (Slot l) = unfold run.answered in accepted-seen c t (Slot l) _ (activeSlot c l) h in
       let s : seenT c t (Slot l) ≡ countedT t (drives (c .core)) v (answerC c v) = o ∙ i in
@@ -401,19 +407,19 @@ module _ (c : Controller) (t : Tally) (j : Joined c t) (f : Fine c) (y : (v : �
   claim (Slot l) (went a h) = slot-claim l a h
   claim (Slot l) (rested a h) =
       let i : seenIn c t (Slot l) ≡ t = unfold seenIn in rw a in
-      let o : seenT c t (Slot l) ≡ seenIn c t (Slot l) = unfold restedSlot in accepted-seen c t (Slot l) _ c h in
-      let n : next c (Slot l) ≡ c = unfold restedSlot in accepted-next c t (Slot l) _ c h in
+      let o : seenT c t (Slot l) ≡ seenIn c t (Slot l) = unfold restedSlot in accepted-seen c t (Slot l) _ (restingSlot c l) h in
+      let n : next c (Slot l) ≡ withDiagnosisC c (restingSlot c l .core .diagnosis) = rested-next c t l h in
       unchanged c t (Slot l) j (o ∙ i) (λ x. ap te n ∙ x) (λ x. drives-in (longestOf (c .core)) (t .stand) (t .frame) (j .good .stands) (drives (c .core)) (level-is c t j))
 
   went-joined : (l : ℕ) → isActive (c .core .activity .mode) ≡ true → step c (Slot l) ≡ run.answered (activeSlot c l) → Joined (next c (Slot l)) (nextT c t (Slot l))
-  unfolding run.answered activeSlot followT seenIn
+  unfolding run.answered followT seenIn
   went-joined l a h =
       let v : ℕ = sampleOf c l in
-      let n : next c (Slot l) ≡ sampledSlot c v = accepted-next c t (Slot l) _ (activeSlot c l) h in
+      let n : next c (Slot l) ≡ withDiagnosisC (sampledSlot c v) (activeSlot c l .core .diagnosis) = went-next c t l h in
       let o : nextT c t (Slot l) ≡ followT c t (Slot l) = accepted-tally c t (Slot l) _ (activeSlot c l) h in
       let i : followT c t (Slot l) ≡ afterSlot (endedC c t v) (next c (Slot l)) = rw a in
       let b : Below 256 (sampledSlot c v .memory) = subst (λ (x : Controller). Below 256 (x .memory)) n (fine-next c (Slot l) f .memory) in
-      moved n (o ∙ i ∙ ap (afterSlot (endedC c t v)) n) (record { service = slot-joined c t j v; good = slot-good c t j v b (y v (sample-small c l)) })
+      moved n (o ∙ i ∙ ap (afterSlot (endedC c t v)) n ∙ after-beside (endedC c t v) (sampledSlot c v) _) (record { service = slot-joined c t j v; good = slot-good c t j v b (y v (sample-small c l)) })
 
   pub joined-next : (e : Event) → Step c e → Joined (next c e) (nextT c t e)
   joined-next e (refusal n h) = moved (refused-next c t e n h) (refused-tally c t e n h) j
@@ -426,10 +432,9 @@ module _ (c : Controller) (t : Tally) (j : Joined c t) (f : Fine c) (y : (v : �
   joined-next (Read a) (gave value h) = moved (accepted-next c t (Read a) value c h) (accepted-tally c t (Read a) value c h) (unfold followT in j)
   joined-next (Slot l) (went a h) = went-joined l a h
   joined-next (Slot l) (rested a h) =
-      let n : next c (Slot l) ≡ c = unfold restedSlot in accepted-next c t (Slot l) _ c h in
-      let o : nextT c t (Slot l) ≡ followT c t (Slot l) = unfold restedSlot in accepted-tally c t (Slot l) _ c h in
+      let o : nextT c t (Slot l) ≡ followT c t (Slot l) = unfold restedSlot in accepted-tally c t (Slot l) _ (restingSlot c l) h in
       let i : followT c t (Slot l) ≡ t = unfold followT in rw a in
-      moved n (o ∙ i) j
+      moved (rested-next c t l h) (o ∙ i) (record { service = j .service; good = j .good })
 
 pub joined-fresh : Joined fresh none
 joined-fresh = record { service = unfold fresh resetAll resetCore serviceOf serviceIn none in refl; good = good-none }

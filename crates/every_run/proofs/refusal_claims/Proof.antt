@@ -1,4 +1,5 @@
-use Rattle.every_run.proofs.Ranges.Reach.{never-six, never-refused-six, refused-same, refused-value}
+use Rattle.every_run.proofs.Ranges.Reach.{refused-same, refused-value}
+use Rattle.every_run.proofs.Ranges.Counting.{never-six, never-refused-six}
 use Rattle.every_run.proofs.refusal_claims.Statement.{statement}
 use Rattle.every_run.proofs.refusal_claims.Tie as tie
 

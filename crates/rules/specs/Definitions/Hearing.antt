@@ -1,5 +1,5 @@
 -- The receiver's judgement of a sample (01, Receiving).
---   hearFrame, hearQuiet == what the sample is, with a frame under way and without        acknowledges, receiverLevel == the acknowledge that the model drives
+--   hearFrame, hearQuiet == what the sample is, with a frame under way and without        endsWell == it ends a good frame        acknowledges, receiverLevel == the acknowledge that the model drives
 --   lineAfter, receptionAfter == line and frame after the sample
 use Prim.Native.Nat.{ℕ, _+_, _*_, _/_, _%_}
 use mathlib.Core.Bool.{Bool, true, false, not}
@@ -111,6 +111,13 @@ hearFrame r longest v = hearIn (r .place .phase) r longest v
 -- no frame under way: a 0 begins one where the line takes a start
 unfoldable pub hearQuiet : Line → ℕ → Hearing
 hearQuiet l v = pick (eqb v 0) (pick (takesStart l) Follows Silent) Silent
+
+-- the slot ends a good frame
+unfoldable pub endsWell : Hearing → Bool
+endsWell Silent = false
+endsWell Follows = false
+endsWell (Fault code) = false
+endsWell Good = true
 
 -- ---- the level that a receiver drives: dominant in the second acknowledge slot where it acknowledges
 

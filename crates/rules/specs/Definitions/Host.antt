@@ -7,12 +7,15 @@ use mathlib.Core.List.{List, [], _∷_}
 use lib.Dec.{eqb, ltb}
 use lib.ListN.{getD, set}
 use Rattle.line.specs.Bits.{pick}
-use Rattle.rules.specs.Definitions.Setters.{withFlags, withReport, withService}
-use Rattle.rules.specs.Definitions.Registers.{both, command, interruptReset, interruptEnable, readOnly, writeOnly, reserved, fixedBits, asksReset, asksSleep, asksIdle, asksActivation, asksRearbitration, cleared, lineStatus, retriesByte, interruptStatus, asserted, lineStatusAt, transmissionStatus, lastMessageStatus, lastErrorStatus}
+use Rattle.rules.specs.Definitions.Setters.{withFlags, withReport, withService, withDiagnosis}
+use Rattle.rules.specs.Definitions.Registers.{both, diagnosisControl, command, interruptReset, interruptEnable, readOnly, writeOnly, reserved, fixedBits, asksReset, asksSleep, asksIdle, asksActivation, asksRearbitration, asksPulse, cleared, lineStatus, retriesByte, interruptStatus, asserted, lineStatusAt, transmissionStatus, lastMessageStatus, lastErrorStatus}
 use Rattle.rules.specs.Definitions.Mailbox.{resetMemory}
 use Rattle.rules.specs.Definitions.Reception.{underWay}
 use Rattle.rules.specs.Definitions.Service.{stopped, settled, memoryEnded, reportEnded, abortAsked, rearAsked, aborts}
 use Rattle.rules.specs.Definitions.State.{inRange, isAsleep, isIdle, serving, resetCore, idleDue, slept, idleAsked, activated}
+use Rattle.diagnosis.specs.Control.{rate}
+use Rattle.diagnosis.specs.Rules.{pulsed, renewed}
+use Rattle.diagnosis.specs.declared.Diagnosis.{Diagnosis}
 use Rattle.rules.specs.declared.Service.{Service}
 use Rattle.rules.specs.declared.Core.{Core}
 use Rattle.rules.specs.declared.Controller.{Controller}
@@ -58,11 +61,19 @@ serviceAsked s address v = pick (eqb address command) (rearCommanded s v) (pick 
 unfoldable pub stoppedCore : Core → Service → Core
 stoppedCore k s = idleDue (withService (withReport k (reportEnded (stopped s) (k .report) s)) (settled (stopped s) s))
 
+-- MSDC: "a SDC pulse for the diagnosis system" (000), "unless GRES or SLEEP acts"; 0x02: "changing the divider .. starts period and counts anew" (02, Req 05)
+unfoldable pub diagnosisWritten : List ℕ → Diagnosis → ℕ → ℕ → Diagnosis
+diagnosisWritten m x address v =
+    pick (eqb address command) (pick (asksPulse v) (pulsed (getD m diagnosisControl 0) x) x)
+    (pick (eqb address diagnosisControl) (pick (eqb (rate (getD m diagnosisControl 0)) (rate v)) x (renewed x)) x)
+
 unfoldable pub byteWritten : Controller → ℕ → ℕ → Controller
 byteWritten c address v =
     record {
       memory = memoryEnded (stopped (serviceAsked (c .core .service) address v)) (keptByte (c .memory) address v) (c .core .service .channel);
-      core = stoppedCore (coreWritten (c .core) address v) (serviceAsked (c .core .service) address v);
+      core =
+          withDiagnosis (stoppedCore (coreWritten (c .core) address v) (serviceAsked (c .core .service) address v))
+          (diagnosisWritten (c .memory) (c .core .diagnosis) address v);
     }
 
 unfoldable pub hostWritten : Controller → ℕ → ℕ → Controller
@@ -73,7 +84,7 @@ hostWritten c address v =
 -- ---- an accepted read
 
 unfoldable pub lineStatusOf : Core → ℕ
-lineStatusOf k = lineStatus (isAsleep (k .activity .mode)) (isIdle (k .activity .mode)) (serving (k .service)) (underWay (k .reception .place))
+lineStatusOf k = lineStatus (isAsleep (k .activity .mode)) (isIdle (k .activity .mode)) (k .diagnosis) (serving (k .service)) (underWay (k .reception .place))
 
 unfoldable pub statusRead : Core → ℕ → ℕ
 statusRead k address =
@@ -89,10 +100,10 @@ byteRead c address = pick (readOnly address) (statusRead (c .core) address) (get
 -- ---- refusals, each with its test, in the order in which they are given: "Order, host access: 6, 7, 1, 2, 3 or 4, 8."
 
 -- 6, 7, 1
-unfoldable pub accessRefusals : Core → ℕ → List (Bool × Refusal)
-accessRefusals k address =
-    (not (inRange k), Range)
-    ∷ (isAsleep (k .activity .mode), Asleep)
+unfoldable pub accessRefusals : Controller → ℕ → List (Bool × Refusal)
+accessRefusals c address =
+    (not (inRange c), Range)
+    ∷ (isAsleep (c .core .activity .mode), Asleep)
     ∷ (ltb 255 address, Address)
     ∷ []
 

@@ -1,15 +1,17 @@
 -- The control registers (01, Memory map; 000, Control and Status Registers).
 --   lineControl .. interruptReset == the registers' addresses        resetValues, reservedBits == a byte for each address
 --   readOnly, writeOnly, reserved, fixedBits == what a host may do
---   retrySetting, autonomous, selectedInput, .. == the fields of the registers that the host writes
+--   retrySetting, autonomous, .. == the fields of the registers that the host writes; those of 0x02 are in crates/diagnosis
 --   lineStatus, retriesByte, interruptStatus == the bytes of the registers that the controller writes
---   asserted == the interrupt line        sampled, transmitted == levels after the inversions
+--   asserted == the interrupt line        received, transmitted == levels after the inversions
 use Prim.Native.Nat.{ℕ, _+_, _-_, _*_, _/_, _%_, _^_}
 use mathlib.Core.Bool.{Bool, true, false, not}
 use mathlib.Core.List.{List, [], _∷_}
 use lib.Dec.{eqb, leb}
 use lib.Bits.{bitAnd}
 use Rattle.line.specs.Bits.{pick}
+use Rattle.diagnosis.specs.Rules.{faultOnData, faultOnDataBar}
+use Rattle.diagnosis.specs.declared.Diagnosis.{Diagnosis}
 use Rattle.rules.specs.declared.Flags.{Flags}
 use Rattle.rules.specs.declared.Retries.{Retries}
 use Rattle.rules.specs.declared.Report.{Report}
@@ -136,11 +138,7 @@ retrySetting v = v / 16
 unfoldable pub autonomous : ℕ → Bool
 autonomous v = hasBit v 0
 
--- 0x02: Ma in bit 3, Mb in bit 2: 00 RxD0, 01 RxD2, 10 RxD1, 11 automatic, which "listens to RxD0"
-unfoldable pub selectedInput : ℕ → ℕ
-selectedInput v = pick (eqb (v / 4 % 4) 1) 2 (pick (eqb (v / 4 % 4) 2) 1 0)
-
--- 0x03: GRES, SLEEP, IDLE, ACTI, REAR in bits 7 to 3
+-- 0x03: GRES, SLEEP, IDLE, ACTI, REAR in bits 7 to 3, MSDC in bit 0
 unfoldable pub asksReset : ℕ → Bool
 asksReset v = hasBit v 7
 
@@ -155,6 +153,9 @@ asksActivation v = hasBit v 4
 
 unfoldable pub asksRearbitration : ℕ → Bool
 asksRearbitration v = hasBit v 3
+
+unfoldable pub asksPulse : ℕ → Bool
+asksPulse v = hasBit v 0
 
 -- ---- the registers that the controller writes
 
@@ -187,9 +188,10 @@ resetReport =
 unfoldable pub bit : Bool → ℕ
 bit b = pick b 1 0
 
--- 0x04: SPG in bit 6, IDG in bit 5, TXG in bit 1, RXG in bit 0
-unfoldable pub lineStatus : Bool → Bool → Bool → Bool → ℕ
-lineStatus asleep idle txg rxg = bit asleep * 64 + bit idle * 32 + bit txg * 2 + bit rxg
+-- 0x04: SPG in bit 6, IDG in bit 5, Sc in bit 4, Sb in bit 3, Sa in bit 2, TXG in bit 1, RXG in bit 0
+unfoldable pub lineStatus : Bool → Bool → Diagnosis → Bool → Bool → ℕ
+lineStatus asleep idle x txg rxg =
+    bit asleep * 64 + bit idle * 32 + bit (x .sc) * 16 + bit (faultOnDataBar (x .condition)) * 8 + bit (faultOnData (x .condition)) * 4 + bit txg * 2 + bit rxg
 
 -- 0x05 and 0x06: retries in bits 7 to 4, channel in bits 3 to 0; a reached state has both below 16, `% 16` fits others into the byte
 unfoldable pub retriesByte : Retries → ℕ
@@ -221,17 +223,13 @@ asserted f enable = not (eqb (bitAnd (interruptStatus f) enable) 0)
 
 -- ---- levels
 
--- "levels RxD0 + 2·RxD1 + 4·RxD2"
-unfoldable pub inputLevel : ℕ → ℕ → ℕ
-inputLevel levels input = pick (eqb input 1) (levels / 2 % 2) (pick (eqb input 2) (levels / 4 % 2) (levels % 2))
-
 -- a level is 0 or 1; `% 2` is there only to keep the difference from going below 0
 unfoldable pub inverted : ℕ → Bool → ℕ
 inverted level inverts = pick inverts (1 - level % 2) level
 
--- "after the receive inversion": by 0x00, 0x02 and the levels of a slot
-unfoldable pub sampled : ℕ → ℕ → ℕ → ℕ
-sampled control diagnosis levels = inverted (inputLevel levels (selectedInput diagnosis)) (invertsReceive control)
+-- "after the receive inversion": the levels of the three inputs, by 0x00. They are at most 7; `% 8` is there only to keep the difference from going below 0
+unfoldable pub received : ℕ → ℕ → ℕ
+received control levels = pick (invertsReceive control) (7 - levels % 8) (levels % 8)
 
 -- "the event's answer and listing give TXD after it", the transmit inversion
 unfoldable pub transmitted : ℕ → ℕ → ℕ

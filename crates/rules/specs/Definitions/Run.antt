@@ -9,7 +9,7 @@ use lib.ListN.{getD, replicate}
 use Rattle.line.specs.Bits.{pick}
 use Rattle.rules.specs.Definitions.Registers.{lineControl, transmitted}
 use Rattle.rules.specs.Definitions.State.{inRange, isActive, resetCore}
-use Rattle.rules.specs.Definitions.Slots.{drives, activeSlot}
+use Rattle.rules.specs.Definitions.Slots.{drives, activeSlot, restingSlot}
 use Rattle.rules.specs.Definitions.Host.{resetAll, hostWritten, byteRead, accessRefusals, writeRefusals, readRefusals}
 use Rattle.rules.specs.Definitions.Answers.{number}
 use Rattle.rules.specs.declared.Refusal.{Refusal}
@@ -37,29 +37,29 @@ unlessRefused c (r ∷ rs) a = pick (r .0) (refuse c (r .1)) (unlessRefused c rs
 
 -- "Pin reset: 6."
 unfoldable pub pinReset : Controller → Answer
-pinReset c = unlessRefused c ((not (inRange (c .core)), Range) ∷ []) (accept 0 (resetAll c))
+pinReset c = unlessRefused c ((not (inRange c), Range) ∷ []) (accept 0 (resetAll c))
 
 -- `% 256` changes no value that is accepted
 unfoldable pub hostWrite : Controller → ℕ → ℕ → Answer
 hostWrite c address value =
-    unlessRefused c (accessRefusals (c .core) address ++ writeRefusals address value) (accept 0 (hostWritten c address (value % 256)))
+    unlessRefused c (accessRefusals c address ++ writeRefusals address value) (accept 0 (hostWritten c address (value % 256)))
 
 unfoldable pub hostRead : Controller → ℕ → Answer
-hostRead c address = unlessRefused c (accessRefusals (c .core) address ++ readRefusals address) (accept (byteRead c address) c)
+hostRead c address = unlessRefused c (accessRefusals c address ++ readRefusals address) (accept (byteRead c address) c)
 
 -- "A slot's answer is the level for the next slot", as TXD after the transmit inversion
 unfoldable pub answered : Controller → Answer
 answered c = accept (transmitted (getD (c .memory) lineControl 0) (drives (c .core))) c
 
--- idle and asleep: recessive, and nothing changes
+-- idle and asleep: recessive
 unfoldable pub restedSlot : Controller → Answer
 restedSlot c = accept (transmitted (getD (c .memory) lineControl 0) 1) c
 
 -- "Slots: 6, 5; asleep gives recessive."
 unfoldable pub slot : Controller → ℕ → Answer
 slot c levels =
-    unlessRefused c ((not (inRange (c .core)), Range) ∷ (ltb 7 levels, Levels) ∷ [])
-    (pick (isActive (c .core .activity .mode)) (answered (activeSlot c levels)) (restedSlot c))
+    unlessRefused c ((not (inRange c), Range) ∷ (ltb 7 levels, Levels) ∷ [])
+    (pick (isActive (c .core .activity .mode)) (answered (activeSlot c levels)) (restedSlot (restingSlot c levels)))
 
 unfoldable pub step : Controller → Event → Answer
 step c Reset = pinReset c

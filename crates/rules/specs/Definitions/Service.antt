@@ -1,5 +1,5 @@
 -- The sending service: choice, start, abort, REAR, end; requests and immediate replies (01, Sending; 02, Req 01; 000, Retries, Rearbitrate and Abort).
---   roleOf, receives == what the model is in the frame under way        stopped, endingOf, settled == the end of a service
+--   roleOf, receives, ownFrame == what the model is in the frame under way        stopped, endingOf, settled == the end of a service
 --   memoryEnded, reportJudged, reportEnded == memory map and registers        chosen, choose, started == choice and start
 --   answeredAs == what an answer is for its request        fulfils == a stored reply ends a waiting request
 --   judgeReply, replied, memoryReplied, reportReplied, replyTaken == an immediate reply
@@ -49,6 +49,14 @@ receives Receiver = true
 receives Sender = false
 receives Asker = true
 receives Replier = false
+
+-- the model's own frame: its attempt or its immediate reply
+unfoldable pub ownFrame : Role → Bool
+ownFrame Nobody = false
+ownFrame Receiver = false
+ownFrame Sender = true
+ownFrame Asker = false
+ownFrame Replier = true
 
 unfoldable pub resting : Service
 resting =

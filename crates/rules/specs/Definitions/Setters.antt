@@ -15,6 +15,7 @@ use Rattle.rules.specs.declared.Effort.{Effort}
 use Rattle.rules.specs.declared.Service.{Service}
 use Rattle.rules.specs.declared.ImmediateReply.{ImmediateReply}
 use Rattle.rules.specs.declared.Activity.{Activity}
+use Rattle.diagnosis.specs.declared.Diagnosis.{Diagnosis}
 use Rattle.rules.specs.declared.Core.{Core}
 
 -- ---- Flags
@@ -90,19 +91,22 @@ withEffort s e = record { channel = s .channel; abort = s .abort; rear = s .rear
 -- ---- Core
 
 abbrev pub withActivity : Core → Activity → Core
-withActivity k a = record { activity = a; report = k .report; line = k .line; reception = k .reception; service = k .service; reply = k .reply }
+withActivity k a = record { activity = a; report = k .report; line = k .line; reception = k .reception; service = k .service; reply = k .reply; diagnosis = k .diagnosis }
 
 abbrev pub withReport : Core → Report → Core
-withReport k x = record { activity = k .activity; report = x; line = k .line; reception = k .reception; service = k .service; reply = k .reply }
+withReport k x = record { activity = k .activity; report = x; line = k .line; reception = k .reception; service = k .service; reply = k .reply; diagnosis = k .diagnosis }
 
 abbrev pub withLine : Core → Line → Core
-withLine k l = record { activity = k .activity; report = k .report; line = l; reception = k .reception; service = k .service; reply = k .reply }
+withLine k l = record { activity = k .activity; report = k .report; line = l; reception = k .reception; service = k .service; reply = k .reply; diagnosis = k .diagnosis }
 
 abbrev pub withReception : Core → Reception → Core
-withReception k r = record { activity = k .activity; report = k .report; line = k .line; reception = r; service = k .service; reply = k .reply }
+withReception k r = record { activity = k .activity; report = k .report; line = k .line; reception = r; service = k .service; reply = k .reply; diagnosis = k .diagnosis }
 
 abbrev pub withService : Core → Service → Core
-withService k s = record { activity = k .activity; report = k .report; line = k .line; reception = k .reception; service = s; reply = k .reply }
+withService k s = record { activity = k .activity; report = k .report; line = k .line; reception = k .reception; service = s; reply = k .reply; diagnosis = k .diagnosis }
 
 abbrev pub withReply : Core → ImmediateReply → Core
-withReply k y = record { activity = k .activity; report = k .report; line = k .line; reception = k .reception; service = k .service; reply = y }
+withReply k y = record { activity = k .activity; report = k .report; line = k .line; reception = k .reception; service = k .service; reply = y; diagnosis = k .diagnosis }
+
+abbrev pub withDiagnosis : Core → Diagnosis → Core
+withDiagnosis k x = record { activity = k .activity; report = k .report; line = k .line; reception = k .reception; service = k .service; reply = k .reply; diagnosis = x }

@@ -1,21 +1,24 @@
--- A slot of an active controller (01, Receiving and Sending; 02, Req 01): the sample is judged with all its effects; then a waiting idle that has come due; then the choice;
--- then a start; then the answer.
+-- A slot (01, Receiving and Sending; 02, Req 01 and Req 05). Active: the sample of the input selected as the slot begins is judged with all its effects; then a waiting idle that
+-- has come due; then the choice; then a start; then the answer; then the diagnosis counts the slot's edges.
 --   roleIn == what the model is in the frame under way        verdict, replyVerdict, heard, delivers, ending == what a sample is        memoryJudged, coreJudged == memory map and state with its effects
---   idleDue, choiceMade, startMade == what follows        drives == the level for the next slot
+--   idleDue, choiceMade, startMade == what follows        drives == the level for the next slot        diagnosisAfter, diagnosedSlot == the diagnosis
 use Prim.Native.Nat.{ℕ}
-use mathlib.Core.Bool.{Bool, not}
+use mathlib.Core.Bool.{Bool, true, false, not}
 use mathlib.Core.List.{List}
+use lib.Dec.{eqb}
 use lib.ListN.{getD}
 use Rattle.line.specs.Bits.{pick}
-use Rattle.rules.specs.Definitions.Setters.{withEffort, withReport, withLine, withReception, withService, withReply}
+use Rattle.rules.specs.Definitions.Setters.{withEffort, withReport, withLine, withReception, withService, withReply, withDiagnosis}
 use Rattle.rules.specs.Definitions.Longest.{longestOf}
-use Rattle.rules.specs.Definitions.Registers.{both, lineControl, transmitControl, diagnosisControl, autonomous, sampled}
+use Rattle.rules.specs.Definitions.Registers.{both, lineControl, transmitControl, diagnosisControl, autonomous, received}
 use Rattle.rules.specs.Definitions.Reception.{underWay, commandEnded, readsAsked, winnerTaken}
-use Rattle.rules.specs.Definitions.Hearing.{lineAfter, receptionAfter, hearFrame, hearQuiet, receiverLevel}
+use Rattle.rules.specs.Definitions.Hearing.{lineAfter, receptionAfter, hearFrame, hearQuiet, endsWell, receiverLevel}
 use Rattle.rules.specs.Definitions.Delivery.{deliveryOf, memoryDelivered, reportHeard, reportDelivered}
 use Rattle.rules.specs.Definitions.Attempt.{levelAt, judgeSlot, advance}
-use Rattle.rules.specs.Definitions.Service.{roleOf, endingOf, settled, memoryEnded, reportSending, reportJudged, reportEnded, answeredAs, fulfils, judgeReply, replied, memoryReplied, reportReplied, replyTaken, choose, started, hearOwn}
-use Rattle.rules.specs.Definitions.State.{isActive, serving, idleDue}
+use Rattle.rules.specs.Definitions.Service.{roleOf, ownFrame, endingOf, settled, memoryEnded, reportSending, reportJudged, reportEnded, answeredAs, fulfils, judgeReply, replied, memoryReplied, reportReplied, replyTaken, choose, started, hearOwn}
+use Rattle.rules.specs.Definitions.State.{isActive, isAsleep, serving, idleDue}
+use Rattle.diagnosis.specs.Rules.{inputLevel, connected, diagnosed}
+use Rattle.diagnosis.specs.declared.Diagnosis.{Diagnosis}
 use Rattle.rules.specs.declared.Report.{Report}
 use Rattle.rules.specs.declared.Reception.{Reception}
 use Rattle.rules.specs.declared.Hearing.{Hearing}
@@ -152,9 +155,13 @@ drives k = drivesAs (roleIn k) k
 
 -- ---- the slot
 
--- the level sampled of a slot's three
+-- the levels of the three inputs
+unfoldable pub levelsOf : Controller → ℕ → ℕ
+levelsOf c levels = received (getD (c .memory) lineControl 0) levels
+
+-- the level sampled: "that of the input selected as the slot begins, before its edges count" (02, Req 05)
 unfoldable pub sampleOf : Controller → ℕ → ℕ
-sampleOf c levels = sampled (getD (c .memory) lineControl 0) (getD (c .memory) diagnosisControl 0) levels
+sampleOf c levels = inputLevel (levelsOf c levels) (connected (getD (c .memory) diagnosisControl 0) (c .core .diagnosis))
 
 -- memory map and state after a sample v that is w for the attempt, q for the reply and h for the line
 unfoldable pub judgedSlot : Controller → Verdict → Verdict → Hearing → ℕ → Controller
@@ -168,5 +175,28 @@ unfoldable pub sampledSlot : Controller → ℕ → Controller
 sampledSlot c v =
     judgedSlot c (verdict (c .core) v) (replyVerdict (roleIn (c .core)) (c .core) v) (heard (c .core) (verdict (c .core) v) v) v
 
+-- ---- the diagnosis: the slot began with controller c
+
+-- "a dominant - recessive transition" of the model's own frame: k is the state that the slot leaves
+unfoldable pub turns : Core → Core → Bool
+turns before k = both (ownFrame (roleIn before)) (both (eqb (drives before) 0) (eqb (drives k) 1))
+
+-- turning: the model's own frame turns from dominant to recessive; ended: a good frame ends
+unfoldable pub diagnosisAfter : Controller → ℕ → Bool → Bool → Diagnosis
+diagnosisAfter c levels turning ended = diagnosed (getD (c .memory) diagnosisControl 0) (levelsOf c levels) turning ended (c .core .diagnosis)
+
+unfoldable pub diagnosedSlot : Controller → ℕ → Controller → Bool → Bool → Controller
+diagnosedSlot c levels after turning ended =
+    record { memory = after .memory; core = withDiagnosis (after .core) (diagnosisAfter c levels turning ended) }
+
+unfoldable pub ended : Controller → ℕ → Bool
+ended c v = endsWell (heard (c .core) (verdict (c .core) v) v)
+
+-- ---- an active slot, and one with no sample: idle the diagnosis works too (000: "continuously"), "asleep nothing counts (house)" (02)
+
 unfoldable pub activeSlot : Controller → ℕ → Controller
-activeSlot c levels = sampledSlot c (sampleOf c levels)
+activeSlot c levels =
+    diagnosedSlot c levels (sampledSlot c (sampleOf c levels)) (turns (c .core) (sampledSlot c (sampleOf c levels) .core)) (ended c (sampleOf c levels))
+
+unfoldable pub restingSlot : Controller → ℕ → Controller
+restingSlot c levels = pick (isAsleep (c .core .activity .mode)) c (diagnosedSlot c levels c false false)

@@ -1,15 +1,18 @@
--- The state, its modes and its ranges (01, Memory map; Numbers refused, 6; 02, Req 01).
+-- The state, its modes and its ranges (01, Memory map; Numbers refused, 6; 02, Req 01 and Req 05).
 --   ranges == the numbers of the state, each with its largest value        inRange == each is in its range        resetCore == the state after reset
 --   idled, idleDue, slept, idleAsked, activated == the commands IDLE, SLEEP, ACTI
 use Prim.Native.Nat.{ℕ, _-_}
 use mathlib.Core.Bool.{Bool, true, false}
 use mathlib.Core.List.{List, [], _∷_}
 use lib.Dec.{leb}
+use lib.ListN.{getD}
 use Rattle.line.specs.Bits.{pick}
 use Rattle.line.specs.Frame.{size}
 use Rattle.rules.specs.Definitions.Longest.{capacity, mostNibbles}
 use Rattle.rules.specs.Definitions.Setters.{withActivity, withLine, withReception, withService, withReply}
-use Rattle.rules.specs.Definitions.Registers.{both, resetReport}
+use Rattle.diagnosis.specs.Control.{divider}
+use Rattle.diagnosis.specs.Rules.{undiagnosed}
+use Rattle.rules.specs.Definitions.Registers.{both, diagnosisControl, resetReport}
 use Rattle.rules.specs.Definitions.Reception.{unsettled, quiet}
 use Rattle.rules.specs.Definitions.Attempt.{inService}
 use Rattle.rules.specs.Definitions.Service.{resting, noReply}
@@ -18,6 +21,7 @@ use Rattle.rules.specs.declared.Mode.{Mode}
 use Rattle.rules.specs.declared.Mode.the-variants.{Idle, Active, Asleep}
 use Rattle.rules.specs.declared.Activity.{Activity}
 use Rattle.rules.specs.declared.Core.{Core}
+use Rattle.rules.specs.declared.Controller.{Controller}
 
 -- ---- modes
 
@@ -45,8 +49,9 @@ serving s = inService (s .effort .progress)
 -- ---- number 6: "a state number outside its range"
 
 -- every number of the state that has a range, and its largest value: the rows of docs/STATE.md. Truth values, enums and bytes whose every value is meant have none
-unfoldable pub ranges : Core → List (ℕ × ℕ)
-ranges k =
+-- control is 0x02: "6 also covers a counter beyond its period" (02, Req 05)
+unfoldable pub ranges : ℕ → Core → List (ℕ × ℕ)
+ranges control k =
     (k .report .sending .count, 15)
     ∷ (k .report .sending .channel, 13)
     ∷ (k .report .message .count, 15)
@@ -67,6 +72,12 @@ ranges k =
     ∷ (k .reply .channel, 13)
     ∷ (k .reply .at, size capacity - 1)
     ∷ (k .reply .frame .n, capacity)
+    ∷ (k .diagnosis .levels, 7)
+    ∷ (k .diagnosis .dominant, 8)
+    ∷ (k .diagnosis .period .slots, divider control - 1)
+    ∷ (k .diagnosis .period .rxd1, 4)
+    ∷ (k .diagnosis .period .rxd2, 4)
+    ∷ (k .diagnosis .period .connected, 4)
     ∷ []
 
 -- every value of a list is at most its largest
@@ -74,15 +85,15 @@ unfoldable pub within : List (ℕ × ℕ) → Bool
 within [] = true
 within (r ∷ rs) = both (leb (r .0) (r .1)) (within rs)
 
-unfoldable pub inRange : Core → Bool
-inRange k = within (ranges k)
+unfoldable pub inRange : Controller → Bool
+inRange c = within (ranges (getD (c .memory) diagnosisControl 0) (c .core))
 
 -- ---- reset
 
 -- "Reset .. resets the rest to idle mode."
 unfoldable pub resetCore : Core
 resetCore =
-    record { activity = inMode Idle false; report = resetReport; line = unsettled; reception = quiet; service = resting; reply = noReply }
+    record { activity = inMode Idle false; report = resetReport; line = unsettled; reception = quiet; service = resting; reply = noReply; diagnosis = undiagnosed }
 
 -- ---- IDLE, SLEEP, ACTI
 

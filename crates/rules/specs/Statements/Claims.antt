@@ -43,15 +43,15 @@ pub record Matching : Type 0 where
 pub record Courses : Type 0 where
   -- tag and R written after the choice do not touch the service; the slot of a loss counts; a refused slot leaves the mode
   pub frame-kept : drives (ran fresh (setUp ++ (ones 5 ++ (Write 0x10 0x02 ∷ (ones 7 ++ levels (take 10 (slots sent)))))) .core) ≡ 1
-  pub setting-kept : ran fresh (setUp ++ (ones 5 ++ (Write 0x01 0x03 ∷ (ones 7 ++ (Slot 1 ∷ []))))) .core .report .flags .te ≡ false
+  pub setting-kept : ran fresh (setUp ++ (ones 5 ++ (Write 0x01 0x03 ∷ (ones 7 ++ (Slot 7 ∷ []))))) .core .report .flags .te ≡ false
   pub loss-counted : ran fresh (setUp ++ (ones 12 ++ overdriven)) .core .service .effort .counters .slots .0 ≡ 11
   -- a loss is no error; the third error of R = 2 raises TE and ends the service, so that the next channel is chosen; an attempt that joins drives the identifier first;
   -- an abort asked in an attempt ends the service with it: CHTx stands beside CHER
   pub loss-no-error : ran fresh (setUp ++ (ones 12 ++ overdriven)) .core .service .effort .counters .errors .0 ≡ 0
-  pub third-error : ran fresh (setUp ++ (ones 12 ++ (Slot 1 ∷ (ones 12 ++ (Slot 1 ∷ (ones 12 ++ (Slot 1 ∷ []))))))) .core .report .flags .te ≡ true
-  pub given-up : ran fresh (setUp ++ (ones 12 ++ (Slot 1 ∷ (ones 12 ++ (Slot 1 ∷ (ones 12 ++ (Slot 1 ∷ []))))))) .core .service .channel ≡ 1
+  pub third-error : ran fresh (setUp ++ (ones 12 ++ (Slot 7 ∷ (ones 12 ++ (Slot 7 ∷ (ones 12 ++ (Slot 7 ∷ []))))))) .core .report .flags .te ≡ true
+  pub given-up : ran fresh (setUp ++ (ones 12 ++ (Slot 7 ∷ (ones 12 ++ (Slot 7 ∷ (ones 12 ++ (Slot 7 ∷ []))))))) .core .service .channel ≡ 1
   pub joined : drives (ran fresh (setUp ++ (Write 0x01 0x22 ∷ (ones 12 ++ levels (take 10 (slots sent))))) .core) ≡ 1
-  pub aborted : getD (ran fresh (setUp ++ (ones 12 ++ (Slot 0 ∷ Slot 0 ∷ Slot 0 ∷ Write 0x13 0x0C ∷ Slot 1 ∷ []))) .memory) 0x13 0 ≡ 0x0E
+  pub aborted : getD (ran fresh (setUp ++ (ones 12 ++ (Slot 0 ∷ Slot 0 ∷ Slot 0 ∷ Write 0x13 0x0C ∷ Slot 7 ∷ []))) .memory) 0x13 0 ≡ 0x0E
   pub refused : (step (ran fresh setUp) (Slot 9) .next) .core .activity .mode ≡ Active
   -- a loss in a first half is no error; after a loss in data the frame's next level, a dominant one, is not driven
   pub lost-in-a-first-half : sees (setUp ++ (ones 12 ++ overdrivenAt sent 13)) (0x04 ∷ 0x05 ∷ 0x07 ∷ []) ≡ 0x03 ∷ 0x00 ∷ 0x00 ∷ []
@@ -62,7 +62,7 @@ pub record Courses : Type 0 where
   pub three-are-too-few : pin (setUp ++ (ones 12 ++ (levels (slots sent) ++ ones 3))) ≡ 1
   pub four-are-enough : pin (setUp ++ (ones 12 ++ (levels (slots sent) ++ ones 4))) ≡ 0
   -- a fault before any channel has matched: 0x07 alone
-  pub unmatched-fault : sees (listening ++ (ones 12 ++ (Slot 0 ∷ Slot 1 ∷ []))) (0x07 ∷ 0x09 ∷ 0x1B ∷ []) ≡ 0x02 ∷ 0x80 ∷ 0x18 ∷ []
+  pub unmatched-fault : sees (listening ++ (ones 12 ++ (Slot 0 ∷ Slot 7 ∷ []))) (0x07 ∷ 0x09 ∷ 0x1B ∷ []) ≡ 0x02 ∷ 0x80 ∷ 0x18 ∷ []
   -- a fault once the frame is matched: CHER and RE, and the channel's other bytes stay
   pub spoilt : sees (listening ++ (ones 12 ++ overdrivenAt asking 34)) (0x07 ∷ 0x09 ∷ 0x18 ∷ 0x19 ∷ 0x1A ∷ 0x1B ∷ 0x1E ∷ 0x1F ∷ []) ≡ 0x02 ∷ 0x84 ∷ 0xF2 ∷ 0x39 ∷ 0x7F ∷ 0x1C ∷ 0xFF ∷ 0xF0 ∷ []
   -- what the host does while a frame is under way: a write, a read and ACTI leave it; IDLE drops it
@@ -90,9 +90,9 @@ pub record Courses : Type 0 where
   pub rxd2 : pin (Write 0x02 0x04 ∷ (setUp ++ replicate 12 (Slot 4))) ≡ 0
   pub automatic : pin (Write 0x02 0x0C ∷ (setUp ++ ones 12)) ≡ 0
   pub receive-inverted : pin (Write 0x00 0x01 ∷ (setUp ++ replicate 12 (Slot 0))) ≡ 0
-  -- REAR between attempts ends the service and marks nothing; MSDC has no effect
+  -- REAR between attempts ends the service and marks nothing; MSDC leaves the service, and is a pulse with no edge before it: major error
   pub rearbitrated : sees (setUp ++ (ones 3 ++ (Write 0x03 0x08 ∷ []))) (0x04 ∷ 0x13 ∷ []) ≡ 0x00 ∷ 0x08 ∷ []
-  pub msdc : sees (setUp ++ (ones 3 ++ (Write 0x03 0x01 ∷ []))) (0x04 ∷ 0x13 ∷ []) ≡ 0x02 ∷ 0x08 ∷ []
+  pub msdc : sees (setUp ++ (ones 3 ++ (Write 0x03 0x01 ∷ []))) (0x04 ∷ 0x13 ∷ []) ≡ 0x0E ∷ 0x08 ∷ []
   -- BOV in 0x07 where a frame does not fit
   pub overflow : sees (heardBy (Write 0x1B 0x10 ∷ []) (slots asking)) (0x07 ∷ 0x09 ∷ 0x1B ∷ 0xFF ∷ 0x80 ∷ []) ≡ 0x20 ∷ 0x84 ∷ 0x14 ∷ 0x00 ∷ 0x00 ∷ []
   -- a reply request: taken by 1,0,1,0 and stored with R/W and RTR
@@ -130,7 +130,7 @@ pub record Courses : Type 0 where
   -- a channel that sends by a link has the data behind the pointer of the channel it names
   pub linked-data-sent : pin (Write 0x10 0xF2 ∷ Write 0x11 0x38 ∷ Write 0x12 0x0D ∷ Write 0x7A 0x20 ∷ Write 0x7B 0x12 ∷ Write 0xA1 0xA5 ∷ Write 0x01 0x23 ∷ Write 0x03 0x10 ∷ (ones 12 ++ levels (take 30 (slots (framed 8 (0xA5 ∷ [])))))) ≡ 1
   -- channel 1, linked to channel 14, does not send: channel 2 does
-  pub no-channel-14 : sees (Write 0x13 0x0A ∷ Write 0x1A 0x0E ∷ Write 0x03 0x10 ∷ Slot 1 ∷ []) (0x04 ∷ 0x05 ∷ []) ≡ 0x02 ∷ 0x02 ∷ []
+  pub no-channel-14 : sees (Write 0x13 0x0A ∷ Write 0x1A 0x0E ∷ Write 0x03 0x10 ∷ Slot 7 ∷ []) (0x04 ∷ 0x05 ∷ []) ≡ 0x02 ∷ 0x02 ∷ []
   -- a channel with CHER 1 listens, and CHER stays; so does one with EXT 0
   pub cher-listens : sees (heardBy (Write 0x1B 0x1C ∷ []) (slots (framed 8 []))) (0x09 ∷ 0x1B ∷ []) ≡ 0x81 ∷ 0x1D ∷ []
   pub channel-ext-0 : sees (heardBy (Write 0x19 0x31 ∷ []) (slots (framed 8 []))) (0x09 ∷ 0x19 ∷ 0x1B ∷ []) ≡ 0x81 ∷ 0x31 ∷ 0x19 ∷ []
@@ -158,7 +158,7 @@ pub record Courses : Type 0 where
   pub kept-as-written : refuses [] (Write 0x00 0x04 ∷ Write 0x0A 0x60 ∷ Write 0x0B 0x60 ∷ Write 0x14 0x01 ∷ Write 0x15 0x01 ∷ Write 0x17 0x01 ∷ []) ≡ replicate 6 0
   -- a state out of its range is refused with 6; the largest values
   pub out-of-range : lastAnswer (record { refused = 0; value = 0; next = beyond }) (Read 0x04 ∷ []) .refused ≡ 6
-  pub largest-values : largestOf (ranges (fresh .core)) ≡ 15 ∷ 13 ∷ 15 ∷ 13 ∷ 32 ∷ 12 ∷ 9 ∷ 67 ∷ 15 ∷ 13 ∷ 127 ∷ 31 ∷ 13 ∷ 30 ∷ 15 ∷ 359 ∷ 15 ∷ 13 ∷ 359 ∷ 30 ∷ []
+  pub largest-values : largestOf (ranges 0x3F (fresh .core)) ≡ 15 ∷ 13 ∷ 15 ∷ 13 ∷ 32 ∷ 12 ∷ 9 ∷ 67 ∷ 15 ∷ 13 ∷ 127 ∷ 31 ∷ 13 ∷ 30 ∷ 15 ∷ 359 ∷ 15 ∷ 13 ∷ 359 ∷ 30 ∷ 7 ∷ 8 ∷ 511 ∷ 4 ∷ 4 ∷ 4 ∷ []
   -- Ma and Mb alone select the input; PC has no effect, and the receive inversion is for every input
   pub input-by-two-bits : pin (Write 0x02 0xFB ∷ (setUp ++ replicate 12 (Slot 2))) ≡ 0
   pub inverted-rxd1 : pin (Write 0x00 0x09 ∷ Write 0x02 0x08 ∷ (setUp ++ replicate 12 (Slot 5))) ≡ 0
@@ -210,3 +210,21 @@ pub record Courses : Type 0 where
   pub request-check-kept : sees (heardBy (Write 0x19 0x3A ∷ Write 0x1B 0x1A ∷ []) (slots (framed 11 []))) (0x1B ∷ 0xFF ∷ 0x80 ∷ 0x81 ∷ 0x82 ∷ []) ≡ 0x1B ∷ 0x60 ∷ 0x26 ∷ 0x34 ∷ 0x00 ∷ []
   -- no byte of the mailbox where the frame does not fit
   pub overflow-leaves-none : drop 0x80 (ran fresh (heardBy (roomFor 2) (slots captured)) .memory) ≡ replicate 128 0
+  -- 02, Req 05. A cut DATA wire shows Sa, a cut DATA-bar wire Sb, both with Sc
+  pub cut-data : sees (Write 0x02 0x0C ∷ Slot 2 ∷ Slot 7 ∷ Slot 2 ∷ Slot 7 ∷ []) (0x04 ∷ []) ≡ 0x34 ∷ []
+  pub cut-data-bar : sees (Write 0x02 0x0C ∷ Slot 4 ∷ Slot 7 ∷ Slot 4 ∷ Slot 7 ∷ []) (0x04 ∷ []) ≡ 0x38 ∷ []
+  -- the sample of the slot that finds it is that of the input selected as the slot begins; the next slot's is that of the wire that works
+  pub sample-before-edges : ran fresh (Write 0x02 0x0C ∷ Write 0x03 0x10 ∷ Slot 3 ∷ Write 0x02 0x1C ∷ Slot 7 ∷ Slot 3 ∷ Slot 7 ∷ Slot 3 ∷ []) .core .line .count ≡ 5
+  pub sample-after-finding : ran fresh (Write 0x02 0x0C ∷ Write 0x03 0x10 ∷ Slot 3 ∷ Write 0x02 0x1C ∷ Slot 7 ∷ Slot 3 ∷ Slot 7 ∷ Slot 3 ∷ Slot 3 ∷ []) .core .line .count ≡ 0
+  -- other SDC bits start the counts anew, the same bits do not; MSDC does nothing with GRES or SLEEP; asleep nothing counts; a refused slot counts nothing
+  pub divider-changed : sees (Write 0x02 0x0C ∷ Slot 2 ∷ Slot 7 ∷ Slot 2 ∷ Write 0x02 0x1C ∷ Slot 7 ∷ []) (0x04 ∷ []) ≡ 0x30 ∷ []
+  pub divider-kept : sees (Write 0x02 0x0C ∷ Slot 2 ∷ Slot 7 ∷ Slot 2 ∷ Write 0x02 0x00 ∷ Slot 7 ∷ []) (0x04 ∷ []) ≡ 0x34 ∷ []
+  pub pulse-with-reset : sees (Write 0x03 0x81 ∷ []) (0x04 ∷ []) ≡ 0x20 ∷ []
+  pub pulse-with-sleep : lineStatusOf (ran fresh (Write 0x03 0x41 ∷ []) .core) ≡ 0x40
+  pub asleep-uncounted : ran fresh (Write 0x03 0x40 ∷ Slot 0 ∷ []) .core .diagnosis .levels ≡ 7
+  pub refused-uncounted : ran fresh (Slot 8 ∷ []) .core .diagnosis .levels ≡ 7
+  -- ETIP: the model's own start with RxD1 recessive, after three slots and after the fourth, the last dominant one
+  pub own-turn : (sees (Write 0x02 0x02 ∷ (setUp ++ (ones 12 ++ (Slot 2 ∷ Slot 2 ∷ Slot 2 ∷ [])))) (0x04 ∷ []) ≡ 0x13 ∷ []) × (sees (Write 0x02 0x02 ∷ (setUp ++ (ones 12 ++ (Slot 2 ∷ Slot 2 ∷ Slot 2 ∷ Slot 2 ∷ [])))) (0x04 ∷ []) ≡ 0x17 ∷ [])
+  -- a start that breaks is no RI: Sc stays; the levels are those after the receive inversion
+  pub no-return : sees (Write 0x03 0x10 ∷ Slot 6 ∷ (ones 12 ++ (Slot 0 ∷ Slot 7 ∷ []))) (0x04 ∷ 0x07 ∷ []) ≡ 0x10 ∷ 0x02 ∷ []
+  pub inverted-levels : ran fresh (Write 0x00 0x01 ∷ Slot 2 ∷ []) .core .diagnosis .levels ≡ 5

@@ -2,6 +2,8 @@
 --   ran == the controller after a run
 --   sees, pin == what a host reads after a run, and the level at the pin
 --   setUp, listening == what the host writes first        ones, levels == slots
+use Rattle.diagnosis.specs.Control as dcontrol
+use Rattle.diagnosis.specs.Rules as drules
 use Rattle.line.specs.Bits as lbits
 use Rattle.line.specs.LineCode as llinecode
 use Rattle.line.specs.Check as lcheck
@@ -38,8 +40,9 @@ use Rattle.rules.specs.declared.Event.the-variants.{Write, Read, Slot}
 unfoldable pub setUp : List Event
 setUp = Write 0x10 0xF2 ∷ Write 0x11 0x38 ∷ Write 0x13 0x08 ∷ Write 0x01 0x23 ∷ Write 0x03 0x10 ∷ []
 
+-- slots with the same level on all three inputs: 7 where it is recessive
 unfoldable pub ones : ℕ → List Event
-ones n = replicate n (Slot 1)
+ones n = replicate n (Slot 7)
 
 -- channel 0's frame: its slots
 unfoldable pub sent : Frame
@@ -47,7 +50,7 @@ sent = record { identifier = 0xF23; command = 8; bytes = []; acknowledge = false
 
 unfoldable pub levels : List ℕ → List Event
 levels [] = []
-levels (v ∷ vs) = Slot v ∷ levels vs
+levels (v ∷ vs) = Slot (7 * v) ∷ levels vs
 
 -- the frame sampled as it is driven, but for its last slot
 unfoldable pub echoed : List Event
@@ -59,7 +62,7 @@ overdriven = levels (take 10 (slots sent)) ++ (Slot 0 ∷ Slot 0 ∷ Slot 0 ∷ 
 
 -- the answer to the last event of a list; it unfolds every definition of the rules, so that a run computes
 unfoldable pub lastAnswer : Answer → List Event → Answer
-unfolding lbits.bits lbits.bitsValueFrom lbits.bitsValue llinecode.lineCode llinecode.pattern lcheck.polynomial lcheck.checkBit lcheck.remainder lcheck.allOnes lcheck.check lframe.byteBits lframe.covered lframe.carried lframe.start lframe.endOfData lframe.acknowledgeSlots lframe.endOfFrame lframe.slots lframe.size llayout.partOf llayout.inFive llayout.halfOf llayout.bitOf llayout.codedLevel llayout.levelIn llayout.levelOf rregisters.readOnly rregisters.writeOnly rregisters.reserved rregisters.rowAt rregisters.resetValues rregisters.resetValue rregisters.reservedRows rregisters.reservedBits rregisters.fixedBits rregisters.invertsReceive rregisters.invertsTransmit rregisters.retrySetting rregisters.autonomous rregisters.selectedInput rregisters.asksReset rregisters.asksSleep rregisters.asksIdle rregisters.asksActivation rregisters.asksRearbitration rregisters.resetReport rregisters.bit rregisters.lineStatus rregisters.retriesByte rregisters.interruptStatus rregisters.unless rregisters.cleared rregisters.asserted rregisters.inputLevel rregisters.inverted rregisters.sampled rregisters.transmitted rchannels.extension rchannels.acknowledgeAsked rchannels.reads rchannels.remote rchannels.twelve rchannels.base rchannels.channelAt rchannels.lengthOf rchannels.cher rchannels.withCher rchannels.withChtx rchannels.withChrx rchannels.drak rchannels.noBuffer rchannels.ownBuffer rchannels.linkedBuffer rchannels.bufferOf rchannels.statusBits rchannels.receiveMessage rchannels.requestDetection rchannels.transmitMessage rchannels.deferredReply rchannels.requestMessage rchannels.awaitsReply rchannels.immediateReply rchannels.matches rchannels.listens rchannels.takes rchannels.nobody rchannels.winnerOf rchannels.lowest rchannels.lowestListening rchannels.won rchannels.winnerFor rchannels.asksToSend rchannels.sendable rchannels.ready rchannels.lowestReady rchannels.settlesReply rchannels.ifReplies rchannels.replierFor rmailbox.mailboxAt rmailbox.statusByte rmailbox.laidFrom rmailbox.placesFilled rmailbox.stored rmailbox.mailboxBytes rmailbox.dataIn rmailbox.frameWith rmailbox.asksReply rmailbox.sentFrame rmailbox.replyFrame rmailbox.codedBytes rmailbox.coded rmailbox.retagged rmailbox.markedCher rmailbox.markedChtx rmailbox.markedChrx rmailbox.rowsWritten rmailbox.resetMemory rreception.unsettled rreception.afterGood rreception.free rreception.takesStart rreception.counted rreception.atPlace rreception.quiet rreception.isUnderWay rreception.underWay rreception.isBody rreception.inBody rreception.behind rreception.startEnded rreception.commandEnded rreception.readsAsked rreception.replyLow rreception.moved rreception.entered rreception.bitTaken rreception.withNibble rreception.moreNibbles rreception.bitsLaid rreception.nibbleTaken rreception.dataEnded rreception.begun rreception.followStart rreception.followBody rreception.followAcknowledge rreception.followEnd rreception.followIn rreception.followed rreception.winnerTaken rreception.dataCount rhearing.lineAfter rhearing.receptionAfter rhearing.whole rhearing.replyRequest rhearing.checkReceived rhearing.checkDue rhearing.hearEndOfData rhearing.hearSecondHalf rhearing.hearBody rhearing.hearStart rhearing.fits rhearing.acknowledges rhearing.acknowledgeWrong rhearing.hearAcknowledge rhearing.hearEnd rhearing.hearIn rhearing.hearFrame rhearing.hearQuiet rhearing.acknowledgeLevel rhearing.receiverIn rhearing.receiverLevel rdelivery.delivered rdelivery.deliveryTo rdelivery.deliveryOf rdelivery.memoryStored rdelivery.memoryDelivered rdelivery.receiveError rdelivery.reportStored rdelivery.reportHeard rdelivery.reportDelivered rattempt.moreSlots rattempt.moreAttempts rattempt.noCounts rattempt.atStage rattempt.isServing rattempt.inService rattempt.isBetween rattempt.betweenAttempts rattempt.isWaiting rattempt.waits rattempt.isDriving rattempt.drivesFrame rattempt.isAnswering rattempt.isAnswered rattempt.isRequest rattempt.sentSlots rattempt.levelAt rattempt.due rattempt.openHalf rattempt.arbitrated rattempt.inCheck rattempt.inAcknowledge rattempt.differenceIn rattempt.difference rattempt.judgeSlot rattempt.slotSpent rattempt.lostSpent rattempt.errorSpent rattempt.advance rattempt.exhausted rservice.roleOf rservice.resting rservice.stopped rservice.endingOf rservice.settled rservice.memoryEnded rservice.retriesOf rservice.reportSending rservice.reportJudged rservice.reportEnded rservice.goodFor rservice.answeredAs rservice.fulfils rservice.noReply rservice.judgeReply rservice.replyMoved rservice.replied rservice.memoryReplied rservice.reportReplied rservice.replyBy rservice.replyTaken rservice.chosen rservice.choiceOf rservice.choose rservice.opened rservice.started rservice.abortAsked rservice.rearAsked rservice.aborts rservice.hearOwn rstate.isActive rstate.isAsleep rstate.isIdle rstate.inMode rstate.serving rstate.ranges rstate.within rstate.inRange rstate.resetCore rstate.idled rstate.idleDue rstate.slept rstate.idleAsked rstate.activated rslots.replyVerdict rslots.verdictAs rslots.verdict rslots.replyAfter rslots.heardAs rslots.heard rslots.delivers rslots.serviceJudged rslots.ending rslots.receptionJudged rslots.reportAfter rslots.memoryJudged rslots.coreJudged rslots.chooses rslots.choiceMade rslots.startMade rslots.followsOn rslots.drivesAs rslots.drives rslots.sampleOf rslots.judgedSlot rslots.sampledSlot rslots.activeSlot ranswers.number ranswers.refusedBy ranswers.valueOf ranswers.answerOf ranswers.refusedLent ranswers.acceptedLent ranswers.answerLent rhost.resetAll rhost.resets rhost.sleeps rhost.modeCommanded rhost.rearCommanded rhost.keptByte rhost.flagsCleared rhost.coreWritten rhost.serviceAsked rhost.stoppedCore rhost.byteWritten rhost.hostWritten rhost.lineStatusOf rhost.statusRead rhost.byteRead rhost.accessRefusals rhost.writeRefusals rhost.readRefusals rhost.interruptLine rrun.fresh rrun.refuse rrun.accept rrun.unlessRefused rrun.pinReset rrun.hostWrite rrun.hostRead rrun.answered rrun.restedSlot rrun.slot rrun.step rrun.next rrun.after
+unfolding dcontrol.rate dcontrol.divider dcontrol.selection dcontrol.automatic dcontrol.comparesTransmission dcontrol.dividerRuns drules.newPeriod drules.undiagnosed drules.inputLevel drules.edge drules.differ drules.counted drules.automaticInput drules.connected drules.edgesCounted drules.dominantRun drules.watched drules.asynchronous drules.transmission drules.protocol drules.orElse drules.found drules.speaks drules.conditionFound drules.isMajor drules.noted drules.conditionPulsed drules.renewed drules.pulse drules.turned drules.pulsed drules.completes drules.ticked drules.returns drules.returned drules.judged drules.clocked drules.diagnosed drules.faultOnData drules.faultOnDataBar lbits.bits lbits.bitsValueFrom lbits.bitsValue llinecode.lineCode llinecode.pattern lcheck.polynomial lcheck.checkBit lcheck.remainder lcheck.allOnes lcheck.check lframe.byteBits lframe.covered lframe.carried lframe.start lframe.endOfData lframe.acknowledgeSlots lframe.endOfFrame lframe.slots lframe.size llayout.partOf llayout.inFive llayout.halfOf llayout.bitOf llayout.codedLevel llayout.levelIn llayout.levelOf rregisters.readOnly rregisters.writeOnly rregisters.reserved rregisters.rowAt rregisters.resetValues rregisters.resetValue rregisters.reservedRows rregisters.reservedBits rregisters.fixedBits rregisters.invertsReceive rregisters.invertsTransmit rregisters.retrySetting rregisters.autonomous rregisters.asksReset rregisters.asksSleep rregisters.asksIdle rregisters.asksActivation rregisters.asksRearbitration rregisters.asksPulse rregisters.resetReport rregisters.bit rregisters.lineStatus rregisters.retriesByte rregisters.interruptStatus rregisters.unless rregisters.cleared rregisters.asserted rregisters.inverted rregisters.received rregisters.transmitted rchannels.extension rchannels.acknowledgeAsked rchannels.reads rchannels.remote rchannels.twelve rchannels.base rchannels.channelAt rchannels.lengthOf rchannels.cher rchannels.withCher rchannels.withChtx rchannels.withChrx rchannels.drak rchannels.noBuffer rchannels.ownBuffer rchannels.linkedBuffer rchannels.bufferOf rchannels.statusBits rchannels.receiveMessage rchannels.requestDetection rchannels.transmitMessage rchannels.deferredReply rchannels.requestMessage rchannels.awaitsReply rchannels.immediateReply rchannels.matches rchannels.listens rchannels.takes rchannels.nobody rchannels.winnerOf rchannels.lowest rchannels.lowestListening rchannels.won rchannels.winnerFor rchannels.asksToSend rchannels.sendable rchannels.ready rchannels.lowestReady rchannels.settlesReply rchannels.ifReplies rchannels.replierFor rmailbox.mailboxAt rmailbox.statusByte rmailbox.laidFrom rmailbox.placesFilled rmailbox.stored rmailbox.mailboxBytes rmailbox.dataIn rmailbox.frameWith rmailbox.asksReply rmailbox.sentFrame rmailbox.replyFrame rmailbox.codedBytes rmailbox.coded rmailbox.retagged rmailbox.markedCher rmailbox.markedChtx rmailbox.markedChrx rmailbox.rowsWritten rmailbox.resetMemory rreception.unsettled rreception.afterGood rreception.free rreception.takesStart rreception.counted rreception.atPlace rreception.quiet rreception.isUnderWay rreception.underWay rreception.isBody rreception.inBody rreception.behind rreception.startEnded rreception.commandEnded rreception.readsAsked rreception.replyLow rreception.moved rreception.entered rreception.bitTaken rreception.withNibble rreception.moreNibbles rreception.bitsLaid rreception.nibbleTaken rreception.dataEnded rreception.begun rreception.followStart rreception.followBody rreception.followAcknowledge rreception.followEnd rreception.followIn rreception.followed rreception.winnerTaken rreception.dataCount rhearing.lineAfter rhearing.receptionAfter rhearing.whole rhearing.replyRequest rhearing.checkReceived rhearing.checkDue rhearing.hearEndOfData rhearing.hearSecondHalf rhearing.hearBody rhearing.hearStart rhearing.fits rhearing.acknowledges rhearing.acknowledgeWrong rhearing.hearAcknowledge rhearing.hearEnd rhearing.hearIn rhearing.hearFrame rhearing.hearQuiet rhearing.endsWell rhearing.acknowledgeLevel rhearing.receiverIn rhearing.receiverLevel rdelivery.delivered rdelivery.deliveryTo rdelivery.deliveryOf rdelivery.memoryStored rdelivery.memoryDelivered rdelivery.receiveError rdelivery.reportStored rdelivery.reportHeard rdelivery.reportDelivered rattempt.moreSlots rattempt.moreAttempts rattempt.noCounts rattempt.atStage rattempt.isServing rattempt.inService rattempt.isBetween rattempt.betweenAttempts rattempt.isWaiting rattempt.waits rattempt.isDriving rattempt.drivesFrame rattempt.isAnswering rattempt.isAnswered rattempt.isRequest rattempt.sentSlots rattempt.levelAt rattempt.due rattempt.openHalf rattempt.arbitrated rattempt.inCheck rattempt.inAcknowledge rattempt.differenceIn rattempt.difference rattempt.judgeSlot rattempt.slotSpent rattempt.lostSpent rattempt.errorSpent rattempt.advance rattempt.exhausted rservice.roleOf rservice.ownFrame rservice.resting rservice.stopped rservice.endingOf rservice.settled rservice.memoryEnded rservice.retriesOf rservice.reportSending rservice.reportJudged rservice.reportEnded rservice.goodFor rservice.answeredAs rservice.fulfils rservice.noReply rservice.judgeReply rservice.replyMoved rservice.replied rservice.memoryReplied rservice.reportReplied rservice.replyBy rservice.replyTaken rservice.chosen rservice.choiceOf rservice.choose rservice.opened rservice.started rservice.abortAsked rservice.rearAsked rservice.aborts rservice.hearOwn rstate.isActive rstate.isAsleep rstate.isIdle rstate.inMode rstate.serving rstate.ranges rstate.within rstate.inRange rstate.resetCore rstate.idled rstate.idleDue rstate.slept rstate.idleAsked rstate.activated rslots.replyVerdict rslots.verdictAs rslots.verdict rslots.replyAfter rslots.heardAs rslots.heard rslots.delivers rslots.serviceJudged rslots.ending rslots.receptionJudged rslots.reportAfter rslots.memoryJudged rslots.coreJudged rslots.chooses rslots.choiceMade rslots.startMade rslots.followsOn rslots.drivesAs rslots.drives rslots.levelsOf rslots.sampleOf rslots.judgedSlot rslots.sampledSlot rslots.turns rslots.diagnosisAfter rslots.diagnosedSlot rslots.ended rslots.activeSlot rslots.restingSlot ranswers.number ranswers.refusedBy ranswers.valueOf ranswers.answerOf ranswers.refusedLent ranswers.acceptedLent ranswers.answerLent rhost.resetAll rhost.resets rhost.sleeps rhost.modeCommanded rhost.rearCommanded rhost.keptByte rhost.flagsCleared rhost.coreWritten rhost.serviceAsked rhost.stoppedCore rhost.diagnosisWritten rhost.byteWritten rhost.hostWritten rhost.lineStatusOf rhost.statusRead rhost.byteRead rhost.accessRefusals rhost.writeRefusals rhost.readRefusals rhost.interruptLine rrun.fresh rrun.refuse rrun.accept rrun.unlessRefused rrun.pinReset rrun.hostWrite rrun.hostRead rrun.answered rrun.restedSlot rrun.slot rrun.step rrun.next rrun.after
 lastAnswer a [] = a
 lastAnswer a (x ∷ xs) = lastAnswer (step (a .next) x) xs
 
@@ -101,7 +104,7 @@ sendingData =
 -- n attempts on a free line, each failing in its first slot
 unfoldable pub failures : ℕ → List Event
 failures zero = []
-failures (suc n) = ones 12 ++ (Slot 1 ∷ failures n)
+failures (suc n) = ones 12 ++ (Slot 7 ∷ failures n)
 
 -- the first k slots of a frame as they are driven, and then a dominant one
 unfoldable pub overdrivenAt : Frame → ℕ → List Event
@@ -131,7 +134,7 @@ heardBy writes vs = listening ++ (writes ++ (ones 12 ++ levels vs))
 
 -- channel 0 with a command byte and a status byte; active, one slot
 unfoldable pub offered : ℕ → ℕ → List Event
-offered low status = Write 0x11 low ∷ Write 0x13 status ∷ Write 0x03 0x10 ∷ Slot 1 ∷ []
+offered low status = Write 0x11 low ∷ Write 0x13 status ∷ Write 0x03 0x10 ∷ Slot 7 ∷ []
 
 -- whether each of the values 0 to 15 of RNW, RTR, CHTx and CHRx is of a type
 unfoldable pub typesFrom : (ℕ → Bool) → ℕ → ℕ → List ℕ

@@ -1,24 +1,22 @@
-use Prim.Native.Nat.{ℕ, _<_}
-use mathlib.Core.Path.{_≡_, sym, _∙_}
-use borrow.Author.Needs.{needs}
-use native.Mathlib.Omega.{arith}
-use Rattle.rules.specs.Definitions.Slots.{activeSlot, sampleOf}
-use Rattle.rules.proofs.Samples.{sampled-small}
+use mathlib.Core.Path.{_∙_}
+use Rattle.rules.specs.Definitions.Slots.{sampledSlot, judgedSlot, ended}
+use Rattle.judging.specs.Ordinary.{memoryAfter, coreAfter}
+use Rattle.slots.proofs.Ways.{driven-is}
+use Rattle.slots.proofs.Diagnosed.{turning-as}
 use Rattle.slots.proofs.active_slot.Statement.{statement}
 use Rattle.slots.proofs.active_slot.Tie as tie
 
--- a level that is not dominant
-recessive : {x v : ℕ} → x ≡ v → v < 2 → (x ≡ 0 → ⊥) → v ≡ 1
-recessive e h n = omega arith
-
 pub active-slot-spec : {M : Type 1} → statement M
-unfolding activeSlot sampleOf
+unfolding sampledSlot judgedSlot memoryAfter coreAfter ended
 active-slot-spec =
     tie.close (tie.spec
-    (λ c. search needs)
-    (λ c. search needs)
     (λ c κs. tt)
     (λ c κs. tt)
-    (λ c. rw (sym (c .before .before .before .sampled .ensures) ∙ c .before .before .if1 .taken) (c .sampled-slot .ensures))
     (λ c κs. tt)
-    (λ c. rw (recessive (c .before .before .before .sampled .ensures) (sampled-small _ _ _) (c .before .before .if1 .left)) (c .sampled-slot2 .ensures)))
+    (λ c κs. tt)
+    (λ c.
+    let s = c .before .before .before .before .before .before .sample-judged .ensures in
+    let level = c .drives .ensures ∙ driven-is _ in (
+      rw (c .before .before .before .before .follows-on .ensures, s .0, s .1 .0),
+      (level, (turning-as _ _ _ (c .before .before .before .before .before .before .before .before .own-dominant .ensures) level, s .1 .1)),
+    )))

@@ -12,4 +12,5 @@ reset-core-spec =
     (λ c κs. tt)
     (λ c κs. tt)
     (λ c κs. tt)
-    (λ c. simp (← (c .no-reply .ensures), ← (c .before .resting .ensures), ← (c .before .before .quiet .ensures), ← (c .before .before .before .unsettled .ensures), ← (c .before .before .before .before .reset-report .ensures), ← (c .before .before .before .before .before .in-mode .ensures))))
+    (λ c κs. tt)
+    (λ c. simp (← (c .undiagnosed .ensures), ← (c .before .no-reply .ensures), ← (c .before .before .resting .ensures), ← (c .before .before .before .quiet .ensures), ← (c .before .before .before .before .unsettled .ensures), ← (c .before .before .before .before .before .reset-report .ensures), ← (c .before .before .before .before .before .before .in-mode .ensures))))

@@ -1,0 +1,4 @@
+pub mod ClosedRuns
+pub mod Limits
+pub mod After
+pub mod Findings
