@@ -9,7 +9,7 @@
    - acknowledge must be true or false, as <stdbool.h> makes them.
    - Every other argument may have any value. Nothing is kept between calls, so threads may call at the same time.
    - FRAPMAST_STACK bytes of stack are enough for any call. This is measured and not proved: library/stack.c finds about
-     650 bytes for encode, 3,500 for decode and 2,300 for play, at most.
+     650 bytes for encode, 3,500 for decode and 2,400 for play, at most.
    The proof takes the first two, the fourth and the last for granted: Rattle's types have no null, no overlap and no third
    truth value, its proofs know no end of the stack, and nothing can test them from inside.
 

@@ -15,8 +15,8 @@ use Rattle.every_run.specs.Observer.{atReset}
 use Rattle.every_run.specs.Sending.{boundOf}
 use Rattle.closed_runs.specs.Seen.{Counts, seenOver}
 use Rattle.closed_runs.specs.Claims.{wired, Received, Runs, MoreCourses}
-use Rattle.rules.specs.Statements.Runs.{setUp, ones, levels, sent, echoed, overdriven, ran, listening, asking, Stored, lastAnswer, reads, sees, pin, again, sendingData, failures, refuses, readsFrom, writesFrom, framed, heardBy, lower, captured, roomFor}
-use Rattle.rules.specs.declared.Event.the-variants.{Slot, Write}
+use Rattle.rules.specs.Statements.Runs.{setUp, ones, levels, sent, echoed, overdriven, ran, listening, asking, Stored, lastAnswer, reads, sees, pin, again, sendingData, failures, overdrivenAt, refuses, readsFrom, writesFrom, framed, heardBy, lower, captured, roomFor}
+use Rattle.rules.specs.declared.Event.the-variants.{Slot, Write, Read}
 
 pub success : Counts (seenOver fresh atReset (setUp ++ (ones 12 ++ echoed)) (Slot 7)) 0 0 60
 unfolding seenOver setUp ones echoed levels sent
@@ -353,6 +353,86 @@ pub nominal-again : sees (Write 0x03 0x01 ∷ Slot 0 ∷ Slot 7 ∷ Slot 0 ∷ S
 unfolding lastAnswer ran sees reads listening heardBy ones levels asking wired
 nominal-again = refl
 
+pub reply-sent : sees (heardBy (Write 0x19 0x3A ∷ Write 0x80 0xA5 ∷ Write 0x81 0x3C ∷ []) (slots (framed 10 (0xA5 ∷ 0x3C ∷ [])))) (0x05 ∷ 0x06 ∷ 0x09 ∷ 0x1B ∷ []) ≡ 0x00 ∷ 0x01 ∷ 0x88 ∷ 0x1B ∷ []
+unfolding lastAnswer ran heardBy listening ones levels framed sees reads
+reply-sent = refl
+
+pub one-place-to-spare : sees (heardBy (roomFor 4) (slots captured)) (0x1B ∷ 0xFC ∷ 0xFD ∷ 0xFE ∷ 0xFF ∷ 0x80 ∷ []) ≡ 0x21 ∷ 0x82 ∷ 0x00 ∷ 0xFF ∷ 0x00 ∷ 0x00 ∷ []
+unfolding lastAnswer ran heardBy listening ones levels sees reads captured roomFor
+one-place-to-spare = refl
+
+pub low-bits-masked : sees (heardBy (Write 0x19 0x99 ∷ Write 0x1F 0x00 ∷ []) (slots asking)) (0x09 ∷ 0x18 ∷ 0x19 ∷ 0x1B ∷ []) ≡ 0x82 ∷ 0xF2 ∷ 0x39 ∷ 0x19 ∷ []
+unfolding lastAnswer ran sees reads heardBy listening ones levels asking
+low-bits-masked = refl
+
+pub idle-meanwhile : sees (listening ++ (ones 12 ++ (levels (take 40 (slots asking)) ++ (Write 0x03 0x20 ∷ levels (drop 40 (slots asking)))))) (0x04 ∷ 0x09 ∷ 0x1B ∷ []) ≡ 0x20 ∷ 0x80 ∷ 0x18 ∷ []
+unfolding lastAnswer ran sees reads listening ones levels asking
+idle-meanwhile = refl
+
+pub host-meanwhile : sees (listening ++ (ones 12 ++ (levels (take 40 (slots asking)) ++ (Write 0x90 0x55 ∷ Read 0x04 ∷ Write 0x03 0x10 ∷ levels (drop 40 (slots asking)))))) (0x09 ∷ 0x1B ∷ 0x80 ∷ 0x90 ∷ []) ≡ 0x82 ∷ 0x19 ∷ 0xA5 ∷ 0x55 ∷ []
+unfolding lastAnswer ran sees reads listening ones levels asking
+host-meanwhile = refl
+
+pub check-kept : sees (heardBy (roomFor 5) (slots captured)) (0x1B ∷ 0xFC ∷ 0xFD ∷ 0xFE ∷ 0xFF ∷ 0x80 ∷ 0x81 ∷ []) ≡ 0x29 ∷ 0x82 ∷ 0x00 ∷ 0xFF ∷ 0x1F ∷ 0xF8 ∷ 0x00 ∷ []
+unfolding lastAnswer ran heardBy listening ones levels sees reads captured roomFor
+check-kept = refl
+
+pub check-at-once : sees (heardBy [] (take 40 (slots asking) ++ take 30 (drop 40 (slots again)))) (0x04 ∷ 0x07 ∷ 0x09 ∷ []) ≡ 0x00 ∷ 0x08 ∷ 0x84 ∷ []
+unfolding lastAnswer ran heardBy listening ones levels asking again sees reads
+check-at-once = refl
+
+pub own-end-of-data-spoilt : sees (sendingData ++ (ones 12 ++ (levels (take 68 (slots asking)) ++ ones 1))) (0x05 ∷ 0x07 ∷ 0x09 ∷ []) ≡ 0x10 ∷ 0x02 ∷ 0x80 ∷ []
+unfolding lastAnswer ran sees reads sendingData ones levels asking
+own-end-of-data-spoilt = refl
+
+pub three-are-too-few : pin (setUp ++ (ones 12 ++ (levels (slots sent) ++ ones 3))) ≡ 1
+unfolding lastAnswer ran pin setUp ones levels sent
+three-are-too-few = refl
+
+pub request : sees (heardBy (Write 0x19 0x3A ∷ Write 0x1B 0x1A ∷ []) (slots (framed 11 []))) (0x07 ∷ 0x09 ∷ 0x19 ∷ 0x1B ∷ 0xFF ∷ []) ≡ 0x00 ∷ 0x81 ∷ 0x3A ∷ 0x1B ∷ 0x60 ∷ []
+unfolding lastAnswer ran sees reads heardBy listening ones levels framed
+request = refl
+
+pub ext-0 : sees (heardBy [] (slots (framed 4 []))) (0x07 ∷ 0x09 ∷ 0x1B ∷ []) ≡ 0x00 ∷ 0x80 ∷ 0x18 ∷ []
+unfolding lastAnswer ran sees reads heardBy listening ones levels framed
+ext-0 = refl
+
+pub own-check-unseen : sees (sendingData ++ (ones 12 ++ (levels (take 50 (slots asking)) ++ ones 1))) (0x05 ∷ 0x07 ∷ []) ≡ 0x10 ∷ 0x02 ∷ []
+unfolding lastAnswer ran asking sendingData ones levels sees reads
+own-check-unseen = refl
+
+pub own-data-unseen : sees (sendingData ++ (ones 12 ++ (levels (take 31 (slots asking)) ++ ones 1))) (0x05 ∷ 0x07 ∷ []) ≡ 0x10 ∷ 0x02 ∷ []
+unfolding lastAnswer ran asking sendingData ones levels sees reads
+own-data-unseen = refl
+
+pub reply-lost : sees (heardBy (Write 0x19 0x3A ∷ Write 0x80 0xA5 ∷ Write 0x81 0x3C ∷ []) (take 30 (slots (framed 10 (0xA5 ∷ 0x3C ∷ []))) ++ (0 ∷ []))) (0x04 ∷ 0x05 ∷ 0x09 ∷ 0x1B ∷ []) ≡ 0x01 ∷ 0x00 ∷ 0x80 ∷ 0x18 ∷ []
+unfolding lastAnswer ran heardBy listening ones levels framed sees reads
+reply-lost = refl
+
+pub linked-data-sent : pin (Write 0x10 0xF2 ∷ Write 0x11 0x38 ∷ Write 0x12 0x0D ∷ Write 0x7A 0x20 ∷ Write 0x7B 0x12 ∷ Write 0xA1 0xA5 ∷ Write 0x01 0x23 ∷ Write 0x03 0x10 ∷ (ones 12 ++ levels (take 30 (slots (framed 8 (0xA5 ∷ [])))))) ≡ 1
+unfolding lastAnswer ran pin ones levels framed
+linked-data-sent = refl
+
+pub reply-starts : pin (heardBy (Write 0x19 0x3A ∷ Write 0x80 0xA5 ∷ Write 0x81 0x3C ∷ []) (take 28 (slots (framed 11 [])))) ≡ 0
+unfolding lastAnswer ran heardBy listening ones levels framed pin
+reply-starts = refl
+
+pub rw-sent : pin (Write 0x10 0xF2 ∷ Write 0x11 0x3A ∷ Write 0x13 0x09 ∷ Write 0x01 0x23 ∷ Write 0x03 0x10 ∷ (ones 12 ++ levels (take 27 (slots (framed 10 []))))) ≡ 1
+unfolding lastAnswer ran framed ones levels pin
+rw-sent = refl
+
+pub reply-not-sooner : pin (heardBy (Write 0x19 0x3A ∷ Write 0x80 0xA5 ∷ Write 0x81 0x3C ∷ []) (take 27 (slots (framed 11 [])))) ≡ 1
+unfolding lastAnswer ran heardBy listening ones levels framed pin
+reply-not-sooner = refl
+
+pub own-identifier-unseen : sees (sendingData ++ (ones 12 ++ (levels (take 14 (slots asking)) ++ ones 1))) (0x05 ∷ 0x07 ∷ []) ≡ 0x10 ∷ 0x02 ∷ []
+unfolding lastAnswer ran asking sendingData ones levels sees reads
+own-identifier-unseen = refl
+
+pub lost-in-a-first-half : sees (setUp ++ (ones 12 ++ overdrivenAt sent 13)) (0x04 ∷ 0x05 ∷ 0x07 ∷ []) ≡ 0x03 ∷ 0x00 ∷ 0x00 ∷ []
+unfolding lastAnswer ran sees reads setUp ones overdrivenAt sent levels
+lost-in-a-first-half = refl
+
 pub courses : MoreCourses
 courses =
     record {
@@ -422,4 +502,24 @@ courses =
       silent = silent;
       by-hand = by-hand;
       nominal-again = nominal-again;
+      reply-sent = reply-sent;
+      one-place-to-spare = one-place-to-spare;
+      low-bits-masked = low-bits-masked;
+      idle-meanwhile = idle-meanwhile;
+      host-meanwhile = host-meanwhile;
+      check-kept = check-kept;
+      check-at-once = check-at-once;
+      own-end-of-data-spoilt = own-end-of-data-spoilt;
+      three-are-too-few = three-are-too-few;
+      request = request;
+      ext-0 = ext-0;
+      own-check-unseen = own-check-unseen;
+      own-data-unseen = own-data-unseen;
+      reply-lost = reply-lost;
+      linked-data-sent = linked-data-sent;
+      reply-starts = reply-starts;
+      rw-sent = rw-sent;
+      reply-not-sooner = reply-not-sooner;
+      own-identifier-unseen = own-identifier-unseen;
+      lost-in-a-first-half = lost-in-a-first-half;
     }

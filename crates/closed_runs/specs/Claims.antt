@@ -12,9 +12,9 @@ use Rattle.rules.specs.Definitions.Slots.{drives}
 use Rattle.rules.specs.Definitions.Run.{fresh}
 use Rattle.every_run.specs.Sending.{boundOf}
 use Rattle.every_run.specs.Observer.{atReset}
-use Rattle.rules.specs.Statements.Runs.{setUp, ones, levels, echoed, overdriven, ran, listening, asking, Stored, sees, pin, again, sendingData, failures, refuses, readsFrom, writesFrom, framed, heardBy, lower, captured, roomFor}
+use Rattle.rules.specs.Statements.Runs.{setUp, ones, levels, sent, echoed, overdriven, ran, listening, asking, Stored, sees, pin, again, sendingData, failures, overdrivenAt, refuses, readsFrom, writesFrom, framed, heardBy, lower, captured, roomFor}
 use Rattle.rules.specs.declared.Event.{Event}
-use Rattle.rules.specs.declared.Event.the-variants.{Slot, Write}
+use Rattle.rules.specs.declared.Event.the-variants.{Slot, Write, Read}
 use Rattle.closed_runs.specs.Seen.{Counts, seenOver}
 
 -- slots of given levels on some wires: `low` are the levels of the three inputs in a dominant slot, a recessive one has 7
@@ -145,3 +145,38 @@ pub record MoreCourses : Type 0 where
   pub silent : (sees (Write 0x02 0x01 ∷ ones 63) (0x04 ∷ []) ≡ 0x20 ∷ []) × (sees (Write 0x02 0x01 ∷ ones 64) (0x04 ∷ []) ≡ 0x2C ∷ [])
   pub by-hand : sees (Write 0x03 0x01 ∷ []) (0x04 ∷ []) ≡ 0x2C ∷ []
   pub nominal-again : sees (Write 0x03 0x01 ∷ Slot 0 ∷ Slot 7 ∷ Slot 0 ∷ Slot 7 ∷ Write 0x03 0x01 ∷ []) (0x04 ∷ []) ≡ 0x20 ∷ []
+  -- a loss in a first half is no error; after a loss in data the frame's next level, a dominant one, is not driven
+  pub lost-in-a-first-half : sees (setUp ++ (ones 12 ++ overdrivenAt sent 13)) (0x04 ∷ 0x05 ∷ 0x07 ∷ []) ≡ 0x03 ∷ 0x00 ∷ 0x00 ∷ []
+  -- after a good frame the next attempt starts in the fifth slot, not sooner
+  pub three-are-too-few : pin (setUp ++ (ones 12 ++ (levels (slots sent) ++ ones 3))) ≡ 1
+  -- what the host does while a frame is under way: a write, a read and ACTI leave it; IDLE drops it
+  pub host-meanwhile : sees (listening ++ (ones 12 ++ (levels (take 40 (slots asking)) ++ (Write 0x90 0x55 ∷ Read 0x04 ∷ Write 0x03 0x10 ∷ levels (drop 40 (slots asking)))))) (0x09 ∷ 0x1B ∷ 0x80 ∷ 0x90 ∷ []) ≡ 0x82 ∷ 0x19 ∷ 0xA5 ∷ 0x55 ∷ []
+  pub idle-meanwhile : sees (listening ++ (ones 12 ++ (levels (take 40 (slots asking)) ++ (Write 0x03 0x20 ∷ levels (drop 40 (slots asking)))))) (0x04 ∷ 0x09 ∷ 0x1B ∷ []) ≡ 0x20 ∷ 0x80 ∷ 0x18 ∷ []
+  -- a reply request: taken by 1,0,1,0 and stored with R/W and RTR
+  pub request : sees (heardBy (Write 0x19 0x3A ∷ Write 0x1B 0x1A ∷ []) (slots (framed 11 []))) (0x07 ∷ 0x09 ∷ 0x19 ∷ 0x1B ∷ 0xFF ∷ []) ≡ 0x00 ∷ 0x81 ∷ 0x3A ∷ 0x1B ∷ 0x60 ∷ []
+  -- tag bits under a mask zero are not compared, and rewritten with the identifier received
+  pub low-bits-masked : sees (heardBy (Write 0x19 0x99 ∷ Write 0x1F 0x00 ∷ []) (slots asking)) (0x09 ∷ 0x18 ∷ 0x19 ∷ 0x1B ∷ []) ≡ 0x82 ∷ 0xF2 ∷ 0x39 ∷ 0x19 ∷ []
+  -- ignored: EXT 0
+  pub ext-0 : sees (heardBy [] (slots (framed 4 []))) (0x07 ∷ 0x09 ∷ 0x1B ∷ []) ≡ 0x00 ∷ 0x80 ∷ 0x18 ∷ []
+  -- the sender: CV in the end of frame, in the start and in the end of data, FCSE in the check, ACKE in the first acknowledge slot
+  pub own-end-of-data-spoilt : sees (sendingData ++ (ones 12 ++ (levels (take 68 (slots asking)) ++ ones 1))) (0x05 ∷ 0x07 ∷ 0x09 ∷ []) ≡ 0x10 ∷ 0x02 ∷ 0x80 ∷ []
+  -- a channel that sends by a link has the data behind the pointer of the channel it names
+  pub linked-data-sent : pin (Write 0x10 0xF2 ∷ Write 0x11 0x38 ∷ Write 0x12 0x0D ∷ Write 0x7A 0x20 ∷ Write 0x7B 0x12 ∷ Write 0xA1 0xA5 ∷ Write 0x01 0x23 ∷ Write 0x03 0x10 ∷ (ones 12 ++ levels (take 30 (slots (framed 8 (0xA5 ∷ [])))))) ≡ 1
+  -- the check is judged in the pair 00, after the length; a reply request with data is CV even where its check is wrong; the 68th nibble is CV
+  pub check-at-once : sees (heardBy [] (take 40 (slots asking) ++ take 30 (drop 40 (slots again)))) (0x04 ∷ 0x07 ∷ 0x09 ∷ []) ≡ 0x00 ∷ 0x08 ∷ 0x84 ∷ []
+  -- EXT, R/W and RTR are the channel's
+  pub rw-sent : pin (Write 0x10 0xF2 ∷ Write 0x11 0x3A ∷ Write 0x13 0x09 ∷ Write 0x01 0x23 ∷ Write 0x03 0x10 ∷ (ones 12 ++ levels (take 27 (slots (framed 10 []))))) ≡ 1
+  -- CV where a dominant level is sampled recessive: identifier, data, check
+  pub own-identifier-unseen : sees (sendingData ++ (ones 12 ++ (levels (take 14 (slots asking)) ++ ones 1))) (0x05 ∷ 0x07 ∷ []) ≡ 0x10 ∷ 0x02 ∷ []
+  pub own-data-unseen : sees (sendingData ++ (ones 12 ++ (levels (take 31 (slots asking)) ++ ones 1))) (0x05 ∷ 0x07 ∷ []) ≡ 0x10 ∷ 0x02 ∷ []
+  pub own-check-unseen : sees (sendingData ++ (ones 12 ++ (levels (take 50 (slots asking)) ++ ones 1))) (0x05 ∷ 0x07 ∷ []) ≡ 0x10 ∷ 0x02 ∷ []
+  -- an immediate reply begins at RTR's first half, not before; sent whole it sets TOK, CHTx and CHRx, and 0x06 has retries 0
+  pub reply-starts : pin (heardBy (Write 0x19 0x3A ∷ Write 0x80 0xA5 ∷ Write 0x81 0x3C ∷ []) (take 28 (slots (framed 11 [])))) ≡ 0
+  pub reply-not-sooner : pin (heardBy (Write 0x19 0x3A ∷ Write 0x80 0xA5 ∷ Write 0x81 0x3C ∷ []) (take 27 (slots (framed 11 [])))) ≡ 1
+  pub reply-sent : sees (heardBy (Write 0x19 0x3A ∷ Write 0x80 0xA5 ∷ Write 0x81 0x3C ∷ []) (slots (framed 10 (0xA5 ∷ 0x3C ∷ [])))) (0x05 ∷ 0x06 ∷ 0x09 ∷ 0x1B ∷ []) ≡ 0x00 ∷ 0x01 ∷ 0x88 ∷ 0x1B ∷ []
+  -- a reply that is lost leaves no mark; an error in it sets CHER and RE, not TE
+  pub reply-lost : sees (heardBy (Write 0x19 0x3A ∷ Write 0x80 0xA5 ∷ Write 0x81 0x3C ∷ []) (take 30 (slots (framed 10 (0xA5 ∷ 0x3C ∷ []))) ++ (0 ∷ []))) (0x04 ∷ 0x05 ∷ 0x09 ∷ 0x1B ∷ []) ≡ 0x01 ∷ 0x00 ∷ 0x80 ∷ 0x18 ∷ []
+  -- 02, Req 04. The check behind the data: with M_L n + 3 across the end of the mailbox, high byte first, a zero bit behind it; the count says n; nothing behind it
+  pub check-kept : sees (heardBy (roomFor 5) (slots captured)) (0x1B ∷ 0xFC ∷ 0xFD ∷ 0xFE ∷ 0xFF ∷ 0x80 ∷ 0x81 ∷ []) ≡ 0x29 ∷ 0x82 ∷ 0x00 ∷ 0xFF ∷ 0x1F ∷ 0xF8 ∷ 0x00 ∷ []
+  -- with M_L n + 2 nothing extra
+  pub one-place-to-spare : sees (heardBy (roomFor 4) (slots captured)) (0x1B ∷ 0xFC ∷ 0xFD ∷ 0xFE ∷ 0xFF ∷ 0x80 ∷ []) ≡ 0x21 ∷ 0x82 ∷ 0x00 ∷ 0xFF ∷ 0x00 ∷ 0x00 ∷ []

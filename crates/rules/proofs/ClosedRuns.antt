@@ -69,10 +69,6 @@ pub aborted : getD (ran fresh (setUp ++ (ones 12 ++ (Slot 0 ∷ Slot 0 ∷ Slot 
 unfolding ran lastAnswer setUp ones
 aborted = refl
 
-pub lost-in-a-first-half : sees (setUp ++ (ones 12 ++ overdrivenAt sent 13)) (0x04 ∷ 0x05 ∷ 0x07 ∷ []) ≡ 0x03 ∷ 0x00 ∷ 0x00 ∷ []
-unfolding lastAnswer ran sees reads setUp ones overdrivenAt sent levels
-lost-in-a-first-half = refl
-
 pub lost-in-data : pin (sendingData ++ (ones 12 ++ overdrivenAt asking 30)) ≡ 1
 unfolding lastAnswer ran pin sendingData ones overdrivenAt asking levels
 lost-in-data = refl
@@ -80,10 +76,6 @@ lost-in-data = refl
 pub two-in-a-row : sees (listening ++ (ones 12 ++ (levels (slots asking) ++ (Write 0x1B 0x18 ∷ levels (slots again))))) (0x04 ∷ 0x1B ∷ 0xFF ∷ 0x80 ∷ 0x81 ∷ []) ≡ 0x00 ∷ 0x19 ∷ 0x82 ∷ 0x12 ∷ 0x34 ∷ []
 unfolding lastAnswer ran sees reads listening ones levels asking again
 two-in-a-row = refl
-
-pub three-are-too-few : pin (setUp ++ (ones 12 ++ (levels (slots sent) ++ ones 3))) ≡ 1
-unfolding lastAnswer ran pin setUp ones levels sent
-three-are-too-few = refl
 
 pub four-are-enough : pin (setUp ++ (ones 12 ++ (levels (slots sent) ++ ones 4))) ≡ 0
 unfolding lastAnswer ran pin setUp ones levels sent
@@ -96,14 +88,6 @@ unmatched-fault = refl
 pub spoilt : sees (listening ++ (ones 12 ++ overdrivenAt asking 34)) (0x07 ∷ 0x09 ∷ 0x18 ∷ 0x19 ∷ 0x1A ∷ 0x1B ∷ 0x1E ∷ 0x1F ∷ []) ≡ 0x02 ∷ 0x84 ∷ 0xF2 ∷ 0x39 ∷ 0x7F ∷ 0x1C ∷ 0xFF ∷ 0xF0 ∷ []
 unfolding lastAnswer ran sees reads listening ones overdrivenAt asking levels
 spoilt = refl
-
-pub host-meanwhile : sees (listening ++ (ones 12 ++ (levels (take 40 (slots asking)) ++ (Write 0x90 0x55 ∷ Read 0x04 ∷ Write 0x03 0x10 ∷ levels (drop 40 (slots asking)))))) (0x09 ∷ 0x1B ∷ 0x80 ∷ 0x90 ∷ []) ≡ 0x82 ∷ 0x19 ∷ 0xA5 ∷ 0x55 ∷ []
-unfolding lastAnswer ran sees reads listening ones levels asking
-host-meanwhile = refl
-
-pub idle-meanwhile : sees (listening ++ (ones 12 ++ (levels (take 40 (slots asking)) ++ (Write 0x03 0x20 ∷ levels (drop 40 (slots asking)))))) (0x04 ∷ 0x09 ∷ 0x1B ∷ []) ≡ 0x20 ∷ 0x80 ∷ 0x18 ∷ []
-unfolding lastAnswer ran sees reads listening ones levels asking
-idle-meanwhile = refl
 
 pub waiting : sees (setUp ++ ones 3) (0x04 ∷ 0x05 ∷ []) ≡ 0x02 ∷ 0x00 ∷ []
 unfolding lastAnswer ran sees reads setUp ones
@@ -177,21 +161,9 @@ pub overflow : sees (heardBy (Write 0x1B 0x10 ∷ []) (slots asking)) (0x07 ∷ 
 unfolding lastAnswer ran sees reads heardBy listening ones levels asking
 overflow = refl
 
-pub request : sees (heardBy (Write 0x19 0x3A ∷ Write 0x1B 0x1A ∷ []) (slots (framed 11 []))) (0x07 ∷ 0x09 ∷ 0x19 ∷ 0x1B ∷ 0xFF ∷ []) ≡ 0x00 ∷ 0x81 ∷ 0x3A ∷ 0x1B ∷ 0x60 ∷ []
-unfolding lastAnswer ran sees reads heardBy listening ones levels framed
-request = refl
-
 pub drak : pin (heardBy (Write 0x1A 0xFF ∷ []) (take 71 (slots asking))) ≡ 1
 unfolding lastAnswer ran pin heardBy listening ones levels asking
 drak = refl
-
-pub low-bits-masked : sees (heardBy (Write 0x19 0x99 ∷ Write 0x1F 0x00 ∷ []) (slots asking)) (0x09 ∷ 0x18 ∷ 0x19 ∷ 0x1B ∷ []) ≡ 0x82 ∷ 0xF2 ∷ 0x39 ∷ 0x19 ∷ []
-unfolding lastAnswer ran sees reads heardBy listening ones levels asking
-low-bits-masked = refl
-
-pub ext-0 : sees (heardBy [] (slots (framed 4 []))) (0x07 ∷ 0x09 ∷ 0x1B ∷ []) ≡ 0x00 ∷ 0x80 ∷ 0x18 ∷ []
-unfolding lastAnswer ran sees reads heardBy listening ones levels framed
-ext-0 = refl
 
 pub spoilt-beside-chtx : sees (heardBy (Write 0x1B 0x1A ∷ []) (take 34 (slots asking) ++ (0 ∷ []))) (0x07 ∷ 0x09 ∷ 0x1B ∷ []) ≡ 0x02 ∷ 0x84 ∷ 0x1E ∷ []
 unfolding lastAnswer ran sees reads heardBy listening ones levels asking
@@ -233,10 +205,6 @@ pub own-start-spoilt : sees (setUp ++ failures 1) (0x05 ∷ 0x07 ∷ 0x09 ∷ []
 unfolding lastAnswer ran sees reads setUp failures ones
 own-start-spoilt = refl
 
-pub own-end-of-data-spoilt : sees (sendingData ++ (ones 12 ++ (levels (take 68 (slots asking)) ++ ones 1))) (0x05 ∷ 0x07 ∷ 0x09 ∷ []) ≡ 0x10 ∷ 0x02 ∷ 0x80 ∷ []
-unfolding lastAnswer ran sees reads sendingData ones levels asking
-own-end-of-data-spoilt = refl
-
 pub own-check-spoilt : sees (sendingData ++ (ones 12 ++ overdrivenAt asking 53)) (0x05 ∷ 0x07 ∷ 0x09 ∷ []) ≡ 0x10 ∷ 0x08 ∷ 0x80 ∷ []
 unfolding lastAnswer ran sees reads sendingData ones overdrivenAt asking levels
 own-check-spoilt = refl
@@ -244,10 +212,6 @@ own-check-spoilt = refl
 pub own-acknowledge-spoilt : sees (sendingData ++ (ones 12 ++ overdrivenAt asking 70)) (0x05 ∷ 0x07 ∷ 0x09 ∷ []) ≡ 0x10 ∷ 0x04 ∷ 0x80 ∷ []
 unfolding lastAnswer ran sees reads sendingData ones overdrivenAt asking levels
 own-acknowledge-spoilt = refl
-
-pub linked-data-sent : pin (Write 0x10 0xF2 ∷ Write 0x11 0x38 ∷ Write 0x12 0x0D ∷ Write 0x7A 0x20 ∷ Write 0x7B 0x12 ∷ Write 0xA1 0xA5 ∷ Write 0x01 0x23 ∷ Write 0x03 0x10 ∷ (ones 12 ++ levels (take 30 (slots (framed 8 (0xA5 ∷ [])))))) ≡ 1
-unfolding lastAnswer ran pin ones levels framed
-linked-data-sent = refl
 
 pub no-channel-14 : sees (Write 0x13 0x0A ∷ Write 0x1A 0x0E ∷ Write 0x03 0x10 ∷ Slot 7 ∷ []) (0x04 ∷ 0x05 ∷ []) ≡ 0x02 ∷ 0x02 ∷ []
 unfolding lastAnswer ran sees reads
@@ -297,10 +261,6 @@ pub still-acknowledges : pin (heardBy [] (take 70 (slots asking) ++ (0 ∷ [])))
 unfolding lastAnswer ran heardBy listening ones levels asking pin
 still-acknowledges = refl
 
-pub check-at-once : sees (heardBy [] (take 40 (slots asking) ++ take 30 (drop 40 (slots again)))) (0x04 ∷ 0x07 ∷ 0x09 ∷ []) ≡ 0x00 ∷ 0x08 ∷ 0x84 ∷ []
-unfolding lastAnswer ran heardBy listening ones levels asking again sees reads
-check-at-once = refl
-
 pub request-before-check : sees (heardBy (Write 0x19 0x3A ∷ Write 0x1B 0x1A ∷ []) (take 43 (slots (framed 11 (0xA5 ∷ []))) ++ (flipped (take 2 (drop 43 (slots (framed 11 (0xA5 ∷ []))))) ++ drop 45 (slots (framed 11 (0xA5 ∷ [])))))) (0x07 ∷ []) ≡ 0x02 ∷ []
 unfolding lastAnswer ran heardBy listening ones levels framed flipped sees reads
 request-before-check = refl
@@ -341,22 +301,6 @@ pub ext-0-sent : pin (Write 0x10 0xF2 ∷ Write 0x11 0x30 ∷ Write 0x13 0x08 �
 unfolding lastAnswer ran framed ones levels pin
 ext-0-sent = refl
 
-pub rw-sent : pin (Write 0x10 0xF2 ∷ Write 0x11 0x3A ∷ Write 0x13 0x09 ∷ Write 0x01 0x23 ∷ Write 0x03 0x10 ∷ (ones 12 ++ levels (take 27 (slots (framed 10 []))))) ≡ 1
-unfolding lastAnswer ran framed ones levels pin
-rw-sent = refl
-
-pub own-identifier-unseen : sees (sendingData ++ (ones 12 ++ (levels (take 14 (slots asking)) ++ ones 1))) (0x05 ∷ 0x07 ∷ []) ≡ 0x10 ∷ 0x02 ∷ []
-unfolding lastAnswer ran asking sendingData ones levels sees reads
-own-identifier-unseen = refl
-
-pub own-data-unseen : sees (sendingData ++ (ones 12 ++ (levels (take 31 (slots asking)) ++ ones 1))) (0x05 ∷ 0x07 ∷ []) ≡ 0x10 ∷ 0x02 ∷ []
-unfolding lastAnswer ran asking sendingData ones levels sees reads
-own-data-unseen = refl
-
-pub own-check-unseen : sees (sendingData ++ (ones 12 ++ (levels (take 50 (slots asking)) ++ ones 1))) (0x05 ∷ 0x07 ∷ []) ≡ 0x10 ∷ 0x02 ∷ []
-unfolding lastAnswer ran asking sendingData ones levels sees reads
-own-check-unseen = refl
-
 pub answered : sees (heardBy (Write 0x19 0x3B ∷ Write 0x01 0x23 ∷ []) (slots (framed 10 (0xA5 ∷ 0x3C ∷ [])))) (0x06 ∷ 0x09 ∷ 0x1B ∷ 0xFF ∷ 0x80 ∷ 0x81 ∷ []) ≡ 0x01 ∷ 0x89 ∷ 0x1B ∷ 0x42 ∷ 0xA5 ∷ 0x3C ∷ []
 unfolding lastAnswer ran heardBy listening ones levels framed sees reads
 answered = refl
@@ -380,22 +324,6 @@ request-in-error = refl
 pub fulfilled : sees (heardBy (Write 0x19 0x3B ∷ Write 0x01 0x23 ∷ Write 0x1F 0x00 ∷ []) (slots lower)) (0x04 ∷ 0x09 ∷ 0x18 ∷ 0x19 ∷ 0x1B ∷ []) ≡ 0x00 ∷ 0x81 ∷ 0xF2 ∷ 0x0B ∷ 0x19 ∷ []
 unfolding lastAnswer ran heardBy listening ones levels lower sees reads
 fulfilled = refl
-
-pub reply-starts : pin (heardBy (Write 0x19 0x3A ∷ Write 0x80 0xA5 ∷ Write 0x81 0x3C ∷ []) (take 28 (slots (framed 11 [])))) ≡ 0
-unfolding lastAnswer ran heardBy listening ones levels framed pin
-reply-starts = refl
-
-pub reply-not-sooner : pin (heardBy (Write 0x19 0x3A ∷ Write 0x80 0xA5 ∷ Write 0x81 0x3C ∷ []) (take 27 (slots (framed 11 [])))) ≡ 1
-unfolding lastAnswer ran heardBy listening ones levels framed pin
-reply-not-sooner = refl
-
-pub reply-sent : sees (heardBy (Write 0x19 0x3A ∷ Write 0x80 0xA5 ∷ Write 0x81 0x3C ∷ []) (slots (framed 10 (0xA5 ∷ 0x3C ∷ [])))) (0x05 ∷ 0x06 ∷ 0x09 ∷ 0x1B ∷ []) ≡ 0x00 ∷ 0x01 ∷ 0x88 ∷ 0x1B ∷ []
-unfolding lastAnswer ran heardBy listening ones levels framed sees reads
-reply-sent = refl
-
-pub reply-lost : sees (heardBy (Write 0x19 0x3A ∷ Write 0x80 0xA5 ∷ Write 0x81 0x3C ∷ []) (take 30 (slots (framed 10 (0xA5 ∷ 0x3C ∷ []))) ++ (0 ∷ []))) (0x04 ∷ 0x05 ∷ 0x09 ∷ 0x1B ∷ []) ≡ 0x01 ∷ 0x00 ∷ 0x80 ∷ 0x18 ∷ []
-unfolding lastAnswer ran heardBy listening ones levels framed sees reads
-reply-lost = refl
 
 pub reply-failed : sees (heardBy (Write 0x19 0x3A ∷ Write 0x80 0xA5 ∷ Write 0x81 0x3C ∷ []) (take 31 (slots (framed 10 (0xA5 ∷ 0x3C ∷ []))) ++ (1 ∷ []))) (0x04 ∷ 0x05 ∷ 0x07 ∷ 0x09 ∷ 0x1B ∷ []) ≡ 0x00 ∷ 0x00 ∷ 0x02 ∷ 0x84 ∷ 0x1C ∷ []
 unfolding lastAnswer ran heardBy listening ones levels framed sees reads
@@ -444,14 +372,6 @@ line-quiet = refl
 pub own-not-stored : sees (listening ++ (setUp ++ (ones 12 ++ levels (slots sent)))) (0x09 ∷ 0x13 ∷ 0x1B ∷ 0xFF ∷ []) ≡ 0x88 ∷ 0x0A ∷ 0x18 ∷ 0x00 ∷ []
 unfolding sees reads ran lastAnswer listening setUp ones levels sent
 own-not-stored = refl
-
-pub check-kept : sees (heardBy (roomFor 5) (slots captured)) (0x1B ∷ 0xFC ∷ 0xFD ∷ 0xFE ∷ 0xFF ∷ 0x80 ∷ 0x81 ∷ []) ≡ 0x29 ∷ 0x82 ∷ 0x00 ∷ 0xFF ∷ 0x1F ∷ 0xF8 ∷ 0x00 ∷ []
-unfolding lastAnswer ran heardBy listening ones levels sees reads captured roomFor
-check-kept = refl
-
-pub one-place-to-spare : sees (heardBy (roomFor 4) (slots captured)) (0x1B ∷ 0xFC ∷ 0xFD ∷ 0xFE ∷ 0xFF ∷ 0x80 ∷ []) ≡ 0x21 ∷ 0x82 ∷ 0x00 ∷ 0xFF ∷ 0x00 ∷ 0x00 ∷ []
-unfolding lastAnswer ran heardBy listening ones levels sees reads captured roomFor
-one-place-to-spare = refl
 
 pub length-held : sees (listening ++ (roomFor 5 ++ (ones 12 ++ (levels (take 60 (slots captured)) ++ (Write 0x1B 0x18 ∷ levels (drop 60 (slots captured))))))) (0x1B ∷ 0xFC ∷ 0xFF ∷ 0x80 ∷ []) ≡ 0x19 ∷ 0x82 ∷ 0x1F ∷ 0xF8 ∷ []
 unfolding lastAnswer ran listening ones levels sees reads captured roomFor
@@ -529,15 +449,11 @@ courses =
       joined = joined;
       aborted = aborted;
       refused = refused;
-      lost-in-a-first-half = lost-in-a-first-half;
       lost-in-data = lost-in-data;
       two-in-a-row = two-in-a-row;
-      three-are-too-few = three-are-too-few;
       four-are-enough = four-are-enough;
       unmatched-fault = unmatched-fault;
       spoilt = spoilt;
-      host-meanwhile = host-meanwhile;
-      idle-meanwhile = idle-meanwhile;
       waiting = waiting;
       nothing-to-send = nothing-to-send;
       pin-starts = pin-starts;
@@ -556,10 +472,7 @@ courses =
       rearbitrated = rearbitrated;
       msdc = msdc;
       overflow = overflow;
-      request = request;
       drak = drak;
-      low-bits-masked = low-bits-masked;
-      ext-0 = ext-0;
       spoilt-beside-chtx = spoilt-beside-chtx;
       sends-again = sends-again;
       deferred-reply = deferred-reply;
@@ -574,10 +487,8 @@ courses =
       line-quiet = line-quiet;
       own-end-spoilt = own-end-spoilt;
       own-start-spoilt = own-start-spoilt;
-      own-end-of-data-spoilt = own-end-of-data-spoilt;
       own-check-spoilt = own-check-spoilt;
       own-acknowledge-spoilt = own-acknowledge-spoilt;
-      linked-data-sent = linked-data-sent;
       no-channel-14 = no-channel-14;
       cher-listens = cher-listens;
       channel-ext-0 = channel-ext-0;
@@ -590,7 +501,6 @@ courses =
       linked-drak = linked-drak;
       link-to-link = link-to-link;
       still-acknowledges = still-acknowledges;
-      check-at-once = check-at-once;
       request-before-check = request-before-check;
       nibble-68 = nibble-68;
       reset-values = reset-values;
@@ -601,20 +511,12 @@ courses =
       input-by-two-bits = input-by-two-bits;
       inverted-rxd1 = inverted-rxd1;
       ext-0-sent = ext-0-sent;
-      rw-sent = rw-sent;
-      own-identifier-unseen = own-identifier-unseen;
-      own-data-unseen = own-data-unseen;
-      own-check-unseen = own-check-unseen;
       answered = answered;
       answer-untaken = answer-untaken;
       unanswered = unanswered;
       request-offered = request-offered;
       request-in-error = request-in-error;
       fulfilled = fulfilled;
-      reply-starts = reply-starts;
-      reply-not-sooner = reply-not-sooner;
-      reply-sent = reply-sent;
-      reply-lost = reply-lost;
       reply-failed = reply-failed;
       reply-barred = reply-barred;
       reply-in-error = reply-in-error;
@@ -623,8 +525,6 @@ courses =
       reply-ends = reply-ends;
       reply-not-stored = reply-not-stored;
       own-not-stored = own-not-stored;
-      check-kept = check-kept;
-      one-place-to-spare = one-place-to-spare;
       length-held = length-held;
       request-check-kept = request-check-kept;
       overflow-leaves-none = overflow-leaves-none;

@@ -54,20 +54,15 @@ pub record Courses : Type 0 where
   pub aborted : getD (ran fresh (setUp ++ (ones 12 ++ (Slot 0 ∷ Slot 0 ∷ Slot 0 ∷ Write 0x13 0x0C ∷ Slot 7 ∷ []))) .memory) 0x13 0 ≡ 0x0E
   pub refused : (step (ran fresh setUp) (Slot 9) .next) .core .activity .mode ≡ Active
   -- a loss in a first half is no error; after a loss in data the frame's next level, a dominant one, is not driven
-  pub lost-in-a-first-half : sees (setUp ++ (ones 12 ++ overdrivenAt sent 13)) (0x04 ∷ 0x05 ∷ 0x07 ∷ []) ≡ 0x03 ∷ 0x00 ∷ 0x00 ∷ []
   pub lost-in-data : pin (sendingData ++ (ones 12 ++ overdrivenAt asking 30)) ≡ 1
   -- two good frames in a row, the second from the slot after the first: both stored, and the controller is still active
   pub two-in-a-row : sees (listening ++ (ones 12 ++ (levels (slots asking) ++ (Write 0x1B 0x18 ∷ levels (slots again))))) (0x04 ∷ 0x1B ∷ 0xFF ∷ 0x80 ∷ 0x81 ∷ []) ≡ 0x00 ∷ 0x19 ∷ 0x82 ∷ 0x12 ∷ 0x34 ∷ []
   -- after a good frame the next attempt starts in the fifth slot, not sooner
-  pub three-are-too-few : pin (setUp ++ (ones 12 ++ (levels (slots sent) ++ ones 3))) ≡ 1
   pub four-are-enough : pin (setUp ++ (ones 12 ++ (levels (slots sent) ++ ones 4))) ≡ 0
   -- a fault before any channel has matched: 0x07 alone
   pub unmatched-fault : sees (listening ++ (ones 12 ++ (Slot 0 ∷ Slot 7 ∷ []))) (0x07 ∷ 0x09 ∷ 0x1B ∷ []) ≡ 0x02 ∷ 0x80 ∷ 0x18 ∷ []
   -- a fault once the frame is matched: CHER and RE, and the channel's other bytes stay
   pub spoilt : sees (listening ++ (ones 12 ++ overdrivenAt asking 34)) (0x07 ∷ 0x09 ∷ 0x18 ∷ 0x19 ∷ 0x1A ∷ 0x1B ∷ 0x1E ∷ 0x1F ∷ []) ≡ 0x02 ∷ 0x84 ∷ 0xF2 ∷ 0x39 ∷ 0x7F ∷ 0x1C ∷ 0xFF ∷ 0xF0 ∷ []
-  -- what the host does while a frame is under way: a write, a read and ACTI leave it; IDLE drops it
-  pub host-meanwhile : sees (listening ++ (ones 12 ++ (levels (take 40 (slots asking)) ++ (Write 0x90 0x55 ∷ Read 0x04 ∷ Write 0x03 0x10 ∷ levels (drop 40 (slots asking)))))) (0x09 ∷ 0x1B ∷ 0x80 ∷ 0x90 ∷ []) ≡ 0x82 ∷ 0x19 ∷ 0xA5 ∷ 0x55 ∷ []
-  pub idle-meanwhile : sees (listening ++ (ones 12 ++ (levels (take 40 (slots asking)) ++ (Write 0x03 0x20 ∷ levels (drop 40 (slots asking)))))) (0x04 ∷ 0x09 ∷ 0x1B ∷ []) ≡ 0x20 ∷ 0x80 ∷ 0x18 ∷ []
   -- a service that waits for a free line: TXG, not RXG
   pub waiting : sees (setUp ++ ones 3) (0x04 ∷ 0x05 ∷ []) ≡ 0x02 ∷ 0x00 ∷ []
   -- no channel is ready: no service, and no status bit is cleared
@@ -95,14 +90,8 @@ pub record Courses : Type 0 where
   pub msdc : sees (setUp ++ (ones 3 ++ (Write 0x03 0x01 ∷ []))) (0x04 ∷ 0x13 ∷ []) ≡ 0x0E ∷ 0x08 ∷ []
   -- BOV in 0x07 where a frame does not fit
   pub overflow : sees (heardBy (Write 0x1B 0x10 ∷ []) (slots asking)) (0x07 ∷ 0x09 ∷ 0x1B ∷ 0xFF ∷ 0x80 ∷ []) ≡ 0x20 ∷ 0x84 ∷ 0x14 ∷ 0x00 ∷ 0x00 ∷ []
-  -- a reply request: taken by 1,0,1,0 and stored with R/W and RTR
-  pub request : sees (heardBy (Write 0x19 0x3A ∷ Write 0x1B 0x1A ∷ []) (slots (framed 11 []))) (0x07 ∷ 0x09 ∷ 0x19 ∷ 0x1B ∷ 0xFF ∷ []) ≡ 0x00 ∷ 0x81 ∷ 0x3A ∷ 0x1B ∷ 0x60 ∷ []
   -- DRAK 1: no acknowledge is driven
   pub drak : pin (heardBy (Write 0x1A 0xFF ∷ []) (take 71 (slots asking))) ≡ 1
-  -- tag bits under a mask zero are not compared, and rewritten with the identifier received
-  pub low-bits-masked : sees (heardBy (Write 0x19 0x99 ∷ Write 0x1F 0x00 ∷ []) (slots asking)) (0x09 ∷ 0x18 ∷ 0x19 ∷ 0x1B ∷ []) ≡ 0x82 ∷ 0xF2 ∷ 0x39 ∷ 0x19 ∷ []
-  -- ignored: EXT 0
-  pub ext-0 : sees (heardBy [] (slots (framed 4 []))) (0x07 ∷ 0x09 ∷ 0x1B ∷ []) ≡ 0x00 ∷ 0x80 ∷ 0x18 ∷ []
   -- CHTx beside CHER
   pub spoilt-beside-chtx : sees (heardBy (Write 0x1B 0x1A ∷ []) (take 34 (slots asking) ++ (0 ∷ []))) (0x07 ∷ 0x09 ∷ 0x1B ∷ []) ≡ 0x02 ∷ 0x84 ∷ 0x1E ∷ []
   -- who sends: 0,0,0,1; 1,0,0,1; M_L 31; channel 1, linked to channel 0, in place of a channel 0 with 1,0,0,0 or CHER 1
@@ -124,11 +113,8 @@ pub record Courses : Type 0 where
   -- the sender: CV in the end of frame, in the start and in the end of data, FCSE in the check, ACKE in the first acknowledge slot
   pub own-end-spoilt : sees (sendingData ++ (ones 12 ++ overdrivenAt asking 72)) (0x05 ∷ 0x07 ∷ 0x09 ∷ []) ≡ 0x10 ∷ 0x02 ∷ 0x80 ∷ []
   pub own-start-spoilt : sees (setUp ++ failures 1) (0x05 ∷ 0x07 ∷ 0x09 ∷ []) ≡ 0x10 ∷ 0x02 ∷ 0x80 ∷ []
-  pub own-end-of-data-spoilt : sees (sendingData ++ (ones 12 ++ (levels (take 68 (slots asking)) ++ ones 1))) (0x05 ∷ 0x07 ∷ 0x09 ∷ []) ≡ 0x10 ∷ 0x02 ∷ 0x80 ∷ []
   pub own-check-spoilt : sees (sendingData ++ (ones 12 ++ overdrivenAt asking 53)) (0x05 ∷ 0x07 ∷ 0x09 ∷ []) ≡ 0x10 ∷ 0x08 ∷ 0x80 ∷ []
   pub own-acknowledge-spoilt : sees (sendingData ++ (ones 12 ++ overdrivenAt asking 70)) (0x05 ∷ 0x07 ∷ 0x09 ∷ []) ≡ 0x10 ∷ 0x04 ∷ 0x80 ∷ []
-  -- a channel that sends by a link has the data behind the pointer of the channel it names
-  pub linked-data-sent : pin (Write 0x10 0xF2 ∷ Write 0x11 0x38 ∷ Write 0x12 0x0D ∷ Write 0x7A 0x20 ∷ Write 0x7B 0x12 ∷ Write 0xA1 0xA5 ∷ Write 0x01 0x23 ∷ Write 0x03 0x10 ∷ (ones 12 ++ levels (take 30 (slots (framed 8 (0xA5 ∷ [])))))) ≡ 1
   -- channel 1, linked to channel 14, does not send: channel 2 does
   pub no-channel-14 : sees (Write 0x13 0x0A ∷ Write 0x1A 0x0E ∷ Write 0x03 0x10 ∷ Slot 7 ∷ []) (0x04 ∷ 0x05 ∷ []) ≡ 0x02 ∷ 0x02 ∷ []
   -- a channel with CHER 1 listens, and CHER stays; so does one with EXT 0
@@ -147,7 +133,6 @@ pub record Courses : Type 0 where
   -- a dominant first acknowledge slot is judged in the second
   pub still-acknowledges : pin (heardBy [] (take 70 (slots asking) ++ (0 ∷ []))) ≡ 0
   -- the check is judged in the pair 00, after the length; a reply request with data is CV even where its check is wrong; the 68th nibble is CV
-  pub check-at-once : sees (heardBy [] (take 40 (slots asking) ++ take 30 (drop 40 (slots again)))) (0x04 ∷ 0x07 ∷ 0x09 ∷ []) ≡ 0x00 ∷ 0x08 ∷ 0x84 ∷ []
   pub request-before-check : sees (heardBy (Write 0x19 0x3A ∷ Write 0x1B 0x1A ∷ []) (take 43 (slots (framed 11 (0xA5 ∷ []))) ++ (flipped (take 2 (drop 43 (slots (framed 11 (0xA5 ∷ []))))) ++ drop 45 (slots (framed 11 (0xA5 ∷ [])))))) (0x07 ∷ []) ≡ 0x02 ∷ []
   pub nibble-68 : sees (heardBy [] (take 30 (slots (framed 8 [])) ++ take 320 (lineCode (byteBits (replicate 32 0xA5))))) (0x04 ∷ 0x07 ∷ 0x09 ∷ 0x1B ∷ []) ≡ 0x00 ∷ 0x02 ∷ 0x84 ∷ 0x1C ∷ []
   -- after GRES: every register, and three bytes of channel 0
@@ -164,11 +149,6 @@ pub record Courses : Type 0 where
   pub inverted-rxd1 : pin (Write 0x00 0x09 ∷ Write 0x02 0x08 ∷ (setUp ++ replicate 12 (Slot 5))) ≡ 0
   -- EXT, R/W and RTR are the channel's
   pub ext-0-sent : pin (Write 0x10 0xF2 ∷ Write 0x11 0x30 ∷ Write 0x13 0x08 ∷ Write 0x01 0x23 ∷ Write 0x03 0x10 ∷ (ones 12 ++ levels (take 25 (slots (framed 0 []))))) ≡ 0
-  pub rw-sent : pin (Write 0x10 0xF2 ∷ Write 0x11 0x3A ∷ Write 0x13 0x09 ∷ Write 0x01 0x23 ∷ Write 0x03 0x10 ∷ (ones 12 ++ levels (take 27 (slots (framed 10 []))))) ≡ 1
-  -- CV where a dominant level is sampled recessive: identifier, data, check
-  pub own-identifier-unseen : sees (sendingData ++ (ones 12 ++ (levels (take 14 (slots asking)) ++ ones 1))) (0x05 ∷ 0x07 ∷ []) ≡ 0x10 ∷ 0x02 ∷ []
-  pub own-data-unseen : sees (sendingData ++ (ones 12 ++ (levels (take 31 (slots asking)) ++ ones 1))) (0x05 ∷ 0x07 ∷ []) ≡ 0x10 ∷ 0x02 ∷ []
-  pub own-check-unseen : sees (sendingData ++ (ones 12 ++ (levels (take 50 (slots asking)) ++ ones 1))) (0x05 ∷ 0x07 ∷ []) ≡ 0x10 ∷ 0x02 ∷ []
   -- 02, Req 01. A request whose RTR is driven dominant: the frame that answers is stored, TOK, CHTx and CHRx, and 0x06 has channel 1
   pub answered : sees (heardBy (Write 0x19 0x3B ∷ Write 0x01 0x23 ∷ []) (slots (framed 10 (0xA5 ∷ 0x3C ∷ [])))) (0x06 ∷ 0x09 ∷ 0x1B ∷ 0xFF ∷ 0x80 ∷ 0x81 ∷ []) ≡ 0x01 ∷ 0x89 ∷ 0x1B ∷ 0x42 ∷ 0xA5 ∷ 0x3C ∷ []
   -- an answer that no channel takes is CV at the end of the good frame
@@ -180,12 +160,7 @@ pub record Courses : Type 0 where
   pub request-in-error : sees (offered 0x3B 0x0C) (0x04 ∷ 0x05 ∷ []) ≡ 0x02 ∷ 0x01 ∷ []
   -- a waiting request ends where its channel stores a reply
   pub fulfilled : sees (heardBy (Write 0x19 0x3B ∷ Write 0x01 0x23 ∷ Write 0x1F 0x00 ∷ []) (slots lower)) (0x04 ∷ 0x09 ∷ 0x18 ∷ 0x19 ∷ 0x1B ∷ []) ≡ 0x00 ∷ 0x81 ∷ 0xF2 ∷ 0x0B ∷ 0x19 ∷ []
-  -- an immediate reply begins at RTR's first half, not before; sent whole it sets TOK, CHTx and CHRx, and 0x06 has retries 0
-  pub reply-starts : pin (heardBy (Write 0x19 0x3A ∷ Write 0x80 0xA5 ∷ Write 0x81 0x3C ∷ []) (take 28 (slots (framed 11 [])))) ≡ 0
-  pub reply-not-sooner : pin (heardBy (Write 0x19 0x3A ∷ Write 0x80 0xA5 ∷ Write 0x81 0x3C ∷ []) (take 27 (slots (framed 11 [])))) ≡ 1
-  pub reply-sent : sees (heardBy (Write 0x19 0x3A ∷ Write 0x80 0xA5 ∷ Write 0x81 0x3C ∷ []) (slots (framed 10 (0xA5 ∷ 0x3C ∷ [])))) (0x05 ∷ 0x06 ∷ 0x09 ∷ 0x1B ∷ []) ≡ 0x00 ∷ 0x01 ∷ 0x88 ∷ 0x1B ∷ []
   -- a reply that is lost leaves no mark; an error in it sets CHER and RE, not TE
-  pub reply-lost : sees (heardBy (Write 0x19 0x3A ∷ Write 0x80 0xA5 ∷ Write 0x81 0x3C ∷ []) (take 30 (slots (framed 10 (0xA5 ∷ 0x3C ∷ []))) ++ (0 ∷ []))) (0x04 ∷ 0x05 ∷ 0x09 ∷ 0x1B ∷ []) ≡ 0x01 ∷ 0x00 ∷ 0x80 ∷ 0x18 ∷ []
   pub reply-failed : sees (heardBy (Write 0x19 0x3A ∷ Write 0x80 0xA5 ∷ Write 0x81 0x3C ∷ []) (take 31 (slots (framed 10 (0xA5 ∷ 0x3C ∷ []))) ++ (1 ∷ []))) (0x04 ∷ 0x05 ∷ 0x07 ∷ 0x09 ∷ 0x1B ∷ []) ≡ 0x00 ∷ 0x00 ∷ 0x02 ∷ 0x84 ∷ 0x1C ∷ []
   -- 1,0,1,0 of a lower channel that matches bars a reply
   pub reply-barred : pin (heardBy (Write 0x19 0x3A ∷ Write 0x1B 0x1A ∷ Write 0x20 0xF2 ∷ Write 0x21 0x3A ∷ Write 0x22 0x10 ∷ Write 0x23 0x18 ∷ Write 0x26 0xFF ∷ Write 0x27 0xF0 ∷ []) (take 28 (slots (framed 11 [])))) ≡ 1
@@ -200,10 +175,6 @@ pub record Courses : Type 0 where
   pub reply-not-stored : sees (heardBy (Write 0x19 0x3A ∷ Write 0x80 0xA5 ∷ Write 0x81 0x3C ∷ Write 0x20 0xF2 ∷ Write 0x21 0x3B ∷ Write 0x22 0x10 ∷ Write 0x23 0x1A ∷ Write 0x26 0xFF ∷ Write 0x27 0xF0 ∷ []) (slots (framed 10 (0xA5 ∷ 0x3C ∷ [])))) (0x09 ∷ 0x1B ∷ 0x23 ∷ 0x90 ∷ 0x91 ∷ []) ≡ 0x88 ∷ 0x1B ∷ 0x1A ∷ 0x00 ∷ 0x00 ∷ []
   -- a frame that the model itself sends is stored by no channel that listens
   pub own-not-stored : sees (listening ++ (setUp ++ (ones 12 ++ levels (slots sent)))) (0x09 ∷ 0x13 ∷ 0x1B ∷ 0xFF ∷ []) ≡ 0x88 ∷ 0x0A ∷ 0x18 ∷ 0x00 ∷ []
-  -- 02, Req 04. The check behind the data: with M_L n + 3 across the end of the mailbox, high byte first, a zero bit behind it; the count says n; nothing behind it
-  pub check-kept : sees (heardBy (roomFor 5) (slots captured)) (0x1B ∷ 0xFC ∷ 0xFD ∷ 0xFE ∷ 0xFF ∷ 0x80 ∷ 0x81 ∷ []) ≡ 0x29 ∷ 0x82 ∷ 0x00 ∷ 0xFF ∷ 0x1F ∷ 0xF8 ∷ 0x00 ∷ []
-  -- with M_L n + 2 nothing extra
-  pub one-place-to-spare : sees (heardBy (roomFor 4) (slots captured)) (0x1B ∷ 0xFC ∷ 0xFD ∷ 0xFE ∷ 0xFF ∷ 0x80 ∷ []) ≡ 0x21 ∷ 0x82 ∷ 0x00 ∷ 0xFF ∷ 0x00 ∷ 0x00 ∷ []
   -- the M_L of the last command slot decides, whatever the host writes later
   pub length-held : sees (listening ++ (roomFor 5 ++ (ones 12 ++ (levels (take 60 (slots captured)) ++ (Write 0x1B 0x18 ∷ levels (drop 60 (slots captured))))))) (0x1B ∷ 0xFC ∷ 0xFF ∷ 0x80 ∷ []) ≡ 0x19 ∷ 0x82 ∷ 0x1F ∷ 0xF8 ∷ []
   -- a reply request leaves its check too
