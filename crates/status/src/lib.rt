@@ -1,6 +1,6 @@
 // The registers that the controller itself writes, as bytes; a write to 0x0B, and the interrupt line (01, Memory map; 000, Control and Status Registers).
 ghost use mathlib.Core.Path.{_≡_};
-ghost use Prim.Native.Nat.{_≤_};
+ghost use Prim.Native.Nat.{_+_, _*_, _≤_};
 ghost use Rattle.rules.specs.Definitions.Registers as rule;
 ghost use Rattle.rules.specs.Definitions.Host as host_rule;
 use diagnosis::Diagnosis;
@@ -20,14 +20,20 @@ fn bit(flag: bool) -> u8
     0
 }
 
+// SPG, IDG and Sc of 0x04.
+fn high_bits(asleep: bool, idle: bool, sc: bool) -> u8
+    ensures value { λ r. ⌜ r ≡ rule.bit asleep * 64 + rule.bit idle * 32 + rule.bit sc * 16 ⌝ }
+    ensures range { λ r. ⌜ r ≤ 112 ⌝ }
+{
+    bit(asleep) * Map::SPG + bit(idle) * Map::IDG + bit(sc) * Map::SC
+}
+
 // The byte of 0x04.
 pub fn line_status(asleep: bool, idle: bool, x: Diagnosis, txg: bool, rxg: bool) -> u8
     ensures { λ r. ⌜ r ≡ rule.lineStatus asleep idle x txg rxg ⌝ }
 {
     let c = x.condition;
-    bit(asleep) * Map::SPG
-        + bit(idle) * Map::IDG
-        + bit(x.sc) * Map::SC
+    high_bits(asleep, idle, x.sc)
         + bit(diagnosing::fault_on_data_bar(c)) * Map::SB
         + bit(diagnosing::fault_on_data(c)) * Map::SA
         + bit(txg) * Map::TXG

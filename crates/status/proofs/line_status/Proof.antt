@@ -9,13 +9,6 @@ unfolding lineStatus
 line-status-spec =
     tie.close (tie.spec
     (λ c κs. tt)
-    (λ c. search needs)
-    (λ c κs. tt)
-    (λ c. search needs)
-    (λ c. search needs)
-    (λ c κs. tt)
-    (λ c. search needs)
-    (λ c. search needs)
     (λ c κs. tt)
     (λ c κs. tt)
     (λ c. search needs)
@@ -30,4 +23,4 @@ line-status-spec =
     (λ c κs. tt)
     (λ c. search needs)
     (λ c. search needs)
-    (λ c. simp (mul-one, ← (c .bit7 .ensures .0), ← (c .before .bit6 .ensures .0), ← (c .before .before .bit5 .ensures .0), ← (c .before .before .before .fault-on-data .ensures), ← (c .before .before .before .before .bit4 .ensures .0), ← (c .before .before .before .before .before .fault-on-data-bar .ensures), ← (c .before .before .before .before .before .before .bit3 .ensures .0), ← (c .before .before .before .before .before .before .before .bit2 .ensures .0), ← (c .before .before .before .before .before .before .before .before .bit .ensures .0))))
+    (λ c. simp (mul-one, ← (c .bit4 .ensures .0), ← (c .before .bit3 .ensures .0), ← (c .before .before .bit2 .ensures .0), ← (c .before .before .before .fault-on-data .ensures), ← (c .before .before .before .before .bit .ensures .0), ← (c .before .before .before .before .before .fault-on-data-bar .ensures), ← (c .before .before .before .before .before .before .high-bits .ensures .0))))
