@@ -87,7 +87,7 @@ turns : (hears 0x0C (byHand 0x0C reset) ≡ 1) × (hears 0x0C (byHand 0x0C (byHa
 unfolding slot ran one shows each byHand reset hears
 turns = (refl, refl, refl)
 
-turns-again : hears 0x0C (byHand 0x0C (byHand 0x00 (ran 0x00 (0 ∷ 7 ∷ 0 ∷ 7 ∷ []) (byHand 0x0C (byHand 0x0C reset))))) ≡ 1
+turns-again : hears 0x0C (byHand 0x0C (byHand 0x00 (ran 0x00 (0 ∷ 7 ∷ 0 ∷ 7 ∷ []) (byHand 0x0C reset)))) ≡ 1
 unfolding slot ran one shows each byHand reset hears
 turns-again = refl
 
@@ -118,6 +118,14 @@ no-return = refl
 replaced : shows (ran 0x00 (2 ∷ 7 ∷ 2 ∷ 7 ∷ []) (byHand 0x00 reset)) ≡ 5
 unfolding slot ran one shows each byHand reset hears
 replaced = refl
+
+dominant-over-edges : shows (ran 0x00 (4 ∷ 6 ∷ 4 ∷ 6 ∷ 4 ∷ 6 ∷ 4 ∷ 6 ∷ []) reset) ≡ 7
+unfolding slot ran one shows each byHand reset hears
+dominant-over-edges = refl
+
+compared-over-edges : shows (slot 0x02 3 true false (ran 0x02 (1 ∷ 3 ∷ 1 ∷ []) (byHand 0x02 (ran 0x02 (3 ∷ []) reset)))) ≡ 5
+unfolding slot ran one shows each byHand reset hears
+compared-over-edges = refl
 
 pub courses : Courses
 courses =
@@ -150,4 +158,6 @@ courses =
       returns-nominal = returns-nominal;
       no-return = no-return;
       replaced = replaced;
+      dominant-over-edges = dominant-over-edges;
+      compared-over-edges = compared-over-edges;
     }

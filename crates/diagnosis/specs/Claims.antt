@@ -74,7 +74,7 @@ pub record Courses : Type 0 where
   pub sc-stays : shows (byHand 0x00 (ran 0x00 (6 ∷ 7 ∷ 6 ∷ 7 ∷ []) reset)) ≡ 4
   -- major error: RxD1 first, the other after each pulse that finds it so; entered again it begins with RxD1
   pub turns : (hears 0x0C (byHand 0x0C reset) ≡ 1) × (hears 0x0C (byHand 0x0C (byHand 0x0C reset)) ≡ 2) × (hears 0x0C (byHand 0x0C (byHand 0x0C (byHand 0x0C reset))) ≡ 1)
-  pub turns-again : hears 0x0C (byHand 0x0C (byHand 0x00 (ran 0x00 (0 ∷ 7 ∷ 0 ∷ 7 ∷ []) (byHand 0x0C (byHand 0x0C reset))))) ≡ 1
+  pub turns-again : hears 0x0C (byHand 0x0C (byHand 0x00 (ran 0x00 (0 ∷ 7 ∷ 0 ∷ 7 ∷ []) (byHand 0x0C reset)))) ≡ 1
   -- automatic selection: a period with a finding keeps the state, one without makes it nominal
   pub kept-degraded : shows (byHand 0x0C (ran 0x0C (2 ∷ 7 ∷ 2 ∷ 7 ∷ 2 ∷ 7 ∷ 2 ∷ 7 ∷ []) reset)) ≡ 5
   pub nominal-again : shows (byHand 0x0C (ran 0x0C (0 ∷ 7 ∷ 0 ∷ 7 ∷ []) (byHand 0x0C (ran 0x0C (2 ∷ 7 ∷ 2 ∷ 7 ∷ 2 ∷ 7 ∷ 2 ∷ 7 ∷ []) reset)))) ≡ 4
@@ -87,3 +87,6 @@ pub record Courses : Type 0 where
   pub no-return : shows (slot 0x0C 7 false true (ran 0x0C (2 ∷ 7 ∷ 2 ∷ 7 ∷ []) reset)) ≡ 5
   -- the newest finding replaces the old: major error, then a wire that lives
   pub replaced : shows (ran 0x00 (2 ∷ 7 ∷ 2 ∷ 7 ∷ []) (byHand 0x00 reset)) ≡ 5
+  -- where two rules speak in a slot: eight dominant slots over the edges, the transmission comparison over the edges
+  pub dominant-over-edges : shows (ran 0x00 (4 ∷ 6 ∷ 4 ∷ 6 ∷ 4 ∷ 6 ∷ 4 ∷ 6 ∷ []) reset) ≡ 7
+  pub compared-over-edges : shows (slot 0x02 3 true false (ran 0x02 (1 ∷ 3 ∷ 1 ∷ []) (byHand 0x02 (ran 0x02 (3 ∷ []) reset)))) ≡ 5
