@@ -18,7 +18,7 @@ fn edge(before: u8, levels: u8, input: u8) -> bool
 }
 
 // One of the three inputs differs from the others.
-fn differ(levels: u8) -> bool
+pub fn differ(levels: u8) -> bool
     ensures { λ r. ⌜ r ≡ rule.differ levels ⌝ }
 {
     (levels != 0) & (levels != 7)
@@ -38,7 +38,7 @@ fn edges(b: bool, n: u32) -> u32
 }
 
 // Dominant slots in a row: the count stops at eight.
-fn dominant_run(level: u8, n: u32) -> u32
+pub fn dominant_run(level: u8, n: u32) -> u32
     ensures { λ r. ⌜ r ≡ rule.dominantRun level n ⌝ }
 {
     if level == 0 {
@@ -377,7 +377,7 @@ fn settled(before: u8, levels: u8, p: Period) -> bool
 }
 
 // Nothing but last levels, dominant slots in a row and Sc can change.
-fn passes(control: u8, levels: u8, turns: bool, run: u32, x: Diagnosis) -> bool
+pub fn passes(control: u8, levels: u8, turns: bool, run: u32, x: Diagnosis) -> bool
     ensures { λ r. ⌜ r ≡ steady.passes control levels turns run x ⌝ }
 {
     if Map::divider_runs(control) {

@@ -47,6 +47,13 @@ decimal-hundreds n h =
     ∙ append-assoc (decimal (n / 10 / 10)) ((48 + n / 10 % 10) ∷ []) ((48 + n % 10) ∷ [])
     ∙ rw e
 
+pub last-two : (n : ℕ) → lastTwo n ≡ lastTwo (n % 100)
+unfolding lastTwo
+last-two n =
+    let t : n / 10 % 10 ≡ n % 100 / 10 % 10 = omega arith in
+    let u : n % 10 ≡ n % 100 % 10 = omega arith in
+    rw (t, u)
+
 abbrev tens : ℕ → ℕ
 tens zero = 10
 tens (suc d) = 10 * tens d

@@ -9,7 +9,7 @@ use native.Mathlib.Omega.{arith}
 use lib.ListN.{set, length}
 use Rattle.listing.specs.Listing.{digit, decimal, twoDigits, hexadecimal, holds, lineRoom, linePlace}
 use Rattle.listing.specs.Laid.{Laid, lastTwo}
-use Rattle.listing.proofs.Laws.{joined, decimal-one, decimal-more, decimal-hundreds, decimal-long-18, hexadecimal-two, hexadecimal-more}
+use Rattle.listing.proofs.Laws.{joined, decimal-one, decimal-more, decimal-hundreds, last-two, decimal-long-18, hexadecimal-two, hexadecimal-more}
 
 -- ---- bytes one by one
 
@@ -37,6 +37,10 @@ last room at n = two room at (48 + n / 10 % 10) (48 + n % 10)
 pub hundreds : {before between after : List ℕ} {at p q : ℕ} (n : ℕ) → 100 ≤ n → Laid before at (decimal (n / 100)) between p → Laid between p (lastTwo n) after q
     → Laid before at (decimal n) after q
 hundreds n h k l = rw (decimal-hundreds n h) (joined k l)
+
+pub hundreds-cut : {before between after : List ℕ} {at p q : ℕ} (n : ℕ) → 100 ≤ n → Laid before at (decimal (n / 100)) between p → Laid between p (lastTwo (n % 100)) after q
+    → Laid before at (decimal n) after q
+hundreds-cut n h k l = hundreds n h k (rw (last-two n) l)
 
 -- a number of at most twenty digits has at most eighteen before the last two
 pub hundreds-fit : {before after : List ℕ} {at p : ℕ} (n : ℕ) → n < 100000000000000000000 → Laid before at (decimal (n / 100)) after p → p + 2 ≤ at + 20

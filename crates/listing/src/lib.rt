@@ -93,7 +93,7 @@ fn put_index(room: &mut [u8], at: usize, n: usize) -> usize
     }
     if n < 10000 {
         let p = put_pair(room, at, n / 100);
-        return put_last(room, p, n);
+        return put_last(room, p, n % 100);
     }
     put_decimal(room, at, n)
 }
@@ -153,7 +153,7 @@ fn put_number(room: &mut [u8], at: usize, text: &[u8], n: usize) -> usize
     put_decimal(room, p, n)
 }
 
-// A word and an address.
+// A word and a hexadecimal number.
 fn put_address(room: &mut [u8], at: usize, text: &[u8], x: u16) -> usize
     requires { ⌜ at + length (now text) + 4 ≤ length (now room) ⌝ }
     ensures { λ r. ⌜ Laid (now (room .entry)) at (now (text .entry) ++ rule.hexadecimal x) (now (room .exit)) r ⌝ }
@@ -199,6 +199,28 @@ fn put_level(room: &mut [u8], at: usize, refused: u8, value: u8) -> usize
     put_number(room, at, b" refused ", refused as usize)
 }
 
+// A write and its answer. The word goes to `put_text` itself: `put_address` would be handed a copy of it at each event.
+fn put_write(room: &mut [u8], at: usize, address: u16, refused: u8) -> usize
+    requires { ⌜ at + 40 ≤ length (now room) ⌝ }
+    ensures { λ r. ⌜ Laid (now (room .entry)) at ((rule.writeText ++ rule.hexadecimal address) ++ rule.okEnd refused) (now (room .exit)) r ⌝ }
+    ensures bound { λ r. ⌜ r ≤ at + 40 ⌝ }
+{
+    let p = put_text(room, at, b" write ");
+    let q = put_hexadecimal(room, p, address);
+    put_ok(room, q, refused)
+}
+
+// A read and its answer.
+fn put_read(room: &mut [u8], at: usize, address: u16, refused: u8, value: u8) -> usize
+    requires { ⌜ at + 39 ≤ length (now room) ⌝ }
+    ensures { λ r. ⌜ Laid (now (room .entry)) at ((rule.readText ++ rule.hexadecimal address) ++ rule.byteEnd refused value) (now (room .exit)) r ⌝ }
+    ensures bound { λ r. ⌜ r ≤ at + 39 ⌝ }
+{
+    let p = put_text(room, at, b" read ");
+    let q = put_hexadecimal(room, p, address);
+    put_byte(room, q, refused, value)
+}
+
 // An event and its answer.
 fn put_event(room: &mut [u8], at: usize, e: Event, refused: u8, value: u8) -> usize
     requires { ⌜ at + 55 ≤ length (now room) ⌝ }
@@ -210,14 +232,8 @@ fn put_event(room: &mut [u8], at: usize, e: Event, refused: u8, value: u8) -> us
             let p = put_text(room, at, b" reset");
             put_ok(room, p, refused)
         }
-        Event::Write(address, _) => {
-            let p = put_address(room, at, b" write ", address);
-            put_ok(room, p, refused)
-        }
-        Event::Read(address) => {
-            let p = put_address(room, at, b" read ", address);
-            put_byte(room, p, refused, value)
-        }
+        Event::Write(address, _) => put_write(room, at, address, refused),
+        Event::Read(address) => put_read(room, at, address, refused, value),
         Event::Slot(levels) => {
             let p = put_number(room, at, b" slot ", levels as usize);
             put_level(room, p, refused, value)

@@ -138,7 +138,7 @@ fn data_ended(r: Reception) -> Reception
 }
 
 // The first slot of a start is taken.
-fn begun() -> Reception
+pub fn begun() -> Reception
     ensures { λ r. ⌜ r ≡ rule.begun ⌝ }
 {
     let mut t = quiet();

@@ -1,6 +1,6 @@
 use native.Mathlib.Omega.{arith}
 use borrow.Author.Needs.{needs}
-use Rattle.listing.proofs.Puts.{hundreds}
+use Rattle.listing.proofs.Puts.{hundreds-cut}
 use Rattle.listing.proofs.put_index.Statement.{statement}
 use Rattle.listing.proofs.put_index.Tie as tie
 
@@ -13,7 +13,7 @@ put-index-spec =
     (λ c κs. omega arith)
     (λ c κs. omega arith)
     (λ c. search needs)
-    (λ c. (hundreds (c .before .before .before .before .before .before .before .before .before .before .before .args .n) (c .before .before .before .before .before .before .before .before .before .if1 .left) (c .before .before .before .before .before .before .put-pair2 .ensures .0) (c .before .before .put-last .ensures .0), omega arith))
+    (λ c. (hundreds-cut (c .before .before .before .before .before .before .before .before .before .before .before .args .n) (c .before .before .before .before .before .before .before .before .before .if1 .left) (c .before .before .before .before .before .before .put-pair2 .ensures .0) (c .before .before .put-last .ensures .0), omega arith))
     (λ c κs. omega arith)
     (λ c. search needs)
     (λ c. search needs))

@@ -1,0 +1,14 @@
+use borrow.Author.Needs.{needs}
+use mathlib.Core.Path.{refl}
+use borrow.Author.Tests.{lt-ltb, le-ltb, le-leb, lt-leb, eq-eqb, ne-eqb}
+use Rattle.row.proofs.reply_of.Statement.{statement}
+use Rattle.row.proofs.reply_of.Tie as tie
+
+pub reply-of-spec : {M : Type 1} → statement M
+reply-of-spec =
+    tie.close (tie.spec
+    (λ c. search needs)
+    (λ c. search needs)
+    (λ c κs. search needs)
+    (λ c κs. search needs)
+    (λ c. simp (← (c .reply-frame-of .ensures), ← (c .before .half .ensures))))
