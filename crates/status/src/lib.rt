@@ -84,7 +84,7 @@ pub fn cleared(f: Flags, value: u8) -> Flags
 }
 
 // Whether status and enable share a one.
-fn asserted(f: Flags, enable: u8) -> bool
+pub fn asserted(f: Flags, enable: u8) -> bool
     ensures { λ r. ⌜ r ≡ rule.asserted f enable ⌝ }
 {
     interrupt_status(f) & enable != 0
