@@ -22,10 +22,8 @@ use Rattle.session.specs.declared.Item.the-variants.{Next, Bad as BadItem}
 use Rattle.session.specs.Reading.{mostEvents, faultNumber, varintAt, counted, versioned, headerAt, eventAt, endAt, eventsAt}
 use Rattle.session.proofs.Walk.{no-header, counts, none-due, stops, goes-on}
 use Rattle.rules.specs.Definitions.Run.{fresh}
-use Rattle.rules.specs.Definitions.Answers.{controller, answerLent, refusedBy, valueOf}
 use Rattle.rules.specs.declared.Controller.{Controller}
 use Rattle.rules.specs.declared.Answer.{Answer}
-use Rattle.rules.specs.declared.CoreOutcome.{CoreOutcome}
 use Rattle.listing.specs.Listing.{line, eventsLine, badLine}
 use Rattle.listing.specs.Laid.{Laid}
 use Rattle.listing.proofs.Laws.{joined}
@@ -75,19 +73,6 @@ pub other-rest : {room text now rest rest′ : List ℕ} {at place : ℕ} → re
 other-rest e g = rw (← e) g
 
 -- ---- the lines as the code lays them
-
--- the line of an event, by the lent map's answer o and the numbers taken from its reply
-pub event-laid : (o : CoreOutcome) (m : List ℕ) (a : Answer) → answerLent o m ≡ a → (n v : ℕ) → n ≡ refusedBy (o .reply) → v ≡ valueOf (o .reply)
-    → (room : List ℕ) (at index : ℕ) (e : Event) (after : List ℕ) (p : ℕ) → Laid room at (line index e n v) after p → Laid room at (line index e (a .refused) (a .value)) after p
-unfolding answerLent
-event-laid o m a h n v i j room at index e after p l =
-    let x : n ≡ a .refused = i ∙ ap (λ (y : Answer). y .refused) h in
-    let z : v ≡ a .value = j ∙ ap (λ (y : Answer). y .value) h in
-    rw (← x, ← z) l
-
-pub event-next : (o : CoreOutcome) (m : List ℕ) (a : Answer) → answerLent o m ≡ a → controller m (o .next) ≡ a .next
-unfolding answerLent
-event-next o m a h = ap (λ (y : Answer). y .next) h
 
 pub first-rest : (c : Controller) → c ≡ fresh → (s : List ℕ) (count at : ℕ) → body fresh 0 count (eventsAt count s at) ≡ body c 0 count (eventsAt (count - 0) s at)
 first-rest c e s count at = rw (e, sub-zero)

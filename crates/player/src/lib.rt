@@ -7,25 +7,17 @@ ghost use Rattle.rules.specs.Definitions.Run as run;
 ghost use Rattle.rules.specs.Definitions.Answers as answers;
 ghost use Rattle.listing.specs.Listing as text;
 ghost use Rattle.listing.specs.Laid.{Laid};
+ghost use Rattle.row.specs.Row as row_rule;
+ghost use Rattle.within.specs.Lent as lent;
 ghost use Rattle.bench_record.specs.Record as rule;
-use answers::refused_by;
-use answers::value_of;
 use bench_record::Played;
 use listing::Edge;
-use rules::Core;
-use rules::CoreOutcome;
-use rules::Reply;
 use session::End;
 use session::Event;
 use session::Fault;
 use session::Header;
 use session::Item;
-
-// The controller but for its map, and the place in the room, after an event.
-struct Step {
-    core: Core,
-    place: usize,
-}
+use within::Answered;
 
 // Room for any listing: 4,096 events, a line before them and one behind.
 pub const ROOM: usize = 327840;
@@ -97,33 +89,37 @@ fn lay_fault(room: &mut [u8], at: usize, f: Fault, place: usize, looked: usize) 
 // ---- an event
 
 // A mark has no effect.
-fn answer(m: &mut [u8; 256], k: Core, e: Event) -> CoreOutcome
-    ensures { λ r. ⌜ answers.answerLent r (now (m .exit)) ≡ rule.answerTo (answers.controller (now (m .entry)) k) e ⌝ }
+fn answer(m: &mut [u8; 256], row: &mut [u8; row::ROW], e: Event) -> Answered
+    ensures { λ r. ⌜ lent.answer r (now (m .exit)) (now (row .exit)) ≡ rule.answerTo (answers.controller (now (m .entry)) (row_rule.coreOf (now (row .entry)))) e ⌝ }
 {
     match e {
-        Event::Reset => host::pin_reset_on(m, k),
-        Event::Write(address, value) => host::host_write_on(m, k, address, value),
-        Event::Read(address) => host_read::host_read_on(m, k, address),
-        Event::Slot(levels) => slots::slot_on(m, k, levels),
-        Event::Mark(_) => CoreOutcome {
-            reply: Reply::Accepted(0),
-            next: k,
+        Event::Reset => within::pin_reset(m, row),
+        Event::Write(address, value) => within::host_write(m, row, address, value),
+        Event::Read(address) => within::host_read(m, row, address),
+        Event::Slot(levels) => within::slot(m, row, levels),
+        Event::Mark(_) => Answered {
+            refused: 0,
+            value: 0,
         },
     }
 }
 
-// An event, and its line at a place.
-fn play_event(m: &mut [u8; 256], k: Core, index: u16, e: Event, room: &mut [u8], at: usize) -> Step
+// An event, and its line at a place; the answer is the place behind it.
+fn play_event(
+    m: &mut [u8; 256],
+    row: &mut [u8; row::ROW],
+    index: u16,
+    e: Event,
+    room: &mut [u8],
+    at: usize,
+) -> usize
     requires { ⌜ at + text.longestLine ≤ 327840 ⌝ }
-    ensures state { λ r. ⌜ answers.controller (now (m .exit)) (r .core) ≡ (rule.answerTo (answers.controller (now (m .entry)) k) e) .next ⌝ }
-    ensures laid { λ r. ⌜ Laid (now (room .entry)) at (text.line index e ((rule.answerTo (answers.controller (now (m .entry)) k) e) .refused) ((rule.answerTo (answers.controller (now (m .entry)) k) e) .value)) (now (room .exit)) (r .place) ⌝ }
-    ensures bound { λ r. ⌜ r .place ≤ at + text.longestLine ⌝ }
+    ensures state { λ _. ⌜ answers.controller (now (m .exit)) (row_rule.coreOf (now (row .exit))) ≡ (rule.answerTo (answers.controller (now (m .entry)) (row_rule.coreOf (now (row .entry)))) e) .next ⌝ }
+    ensures laid { λ r. ⌜ Laid (now (room .entry)) at (text.line index e ((rule.answerTo (answers.controller (now (m .entry)) (row_rule.coreOf (now (row .entry)))) e) .refused) ((rule.answerTo (answers.controller (now (m .entry)) (row_rule.coreOf (now (row .entry)))) e) .value)) (now (room .exit)) r ⌝ }
+    ensures bound { λ r. ⌜ r ≤ at + text.longestLine ⌝ }
 {
-    let a = answer(m, k, e);
-    let reply = a.reply;
-    let core = a.next;
-    let place = lay_line(room, at, index, e, refused_by(reply), value_of(reply));
-    Step { core, place }
+    let a = answer(m, row, e);
+    lay_line(room, at, index, e, a.refused, a.value)
 }
 
 // ---- a session
@@ -146,9 +142,9 @@ fn play_events(s: &[u8], count: u16, first: usize, room: &mut [u8], at: usize) -
     ensures laid { λ r. ⌜ Laid (now (room .entry)) at (rule.body run.fresh 0 count (reading.eventsAt count (now (s .entry)) first)) (now (room .exit)) r ⌝ }
     ensures bound { λ r. ⌜ r ≤ at + 80 * count + 80 ⌝ }
 {
-    let c = controller::fresh();
-    let mut m = c.memory;
-    let mut k = c.core;
+    let mut m = [0u8; 256];
+    let mut row = [0u8; row::ROW];
+    within::fresh(&mut m, &mut row);
     let mut from = first;
     let mut place = at;
     let mut index = 0u16;
@@ -156,9 +152,7 @@ fn play_events(s: &[u8], count: u16, first: usize, room: &mut [u8], at: usize) -
         match reading_place::event_from(s, from) {
             Item::Bad(f, p, looked) => return lay_fault(room, place, f, p, looked),
             Item::Next(e, next) => {
-                let x = play_event(&mut m, k, index, e, room, place);
-                k = x.core;
-                place = x.place;
+                place = play_event(&mut m, &mut row, index, e, room, place);
                 from = next;
             }
         }
