@@ -1,7 +1,8 @@
 /* Compares the proved codec with a second one, written here from the rules (01, Frames on the line; Numbers refused;
-   Session and listing) by other means, and plays random bytes as sessions.
+   Session and listing) by other means, plays random bytes as sessions, and runs the controller's calls against the
+   player.
 
-   usage: compare FILE [SEED [FRAMES [LISTS [SESSIONS]]]]     FILE: a session, whose damaged copies are played too
+   usage: compare FILE [SEED [FRAMES [LISTS [SESSIONS [RUNS]]]]]    FILE: a session, whose damaged copies are played too
 
    The same seed gives the same cases. The first difference is printed with its case, and the exit status is then 1.
    Whatever is lent to the library stands against a page that may not be touched, so that a read or write outside of it
@@ -714,12 +715,20 @@ static unsigned line_events(Session *s, unsigned most)
     return k;
 }
 
+/* random events; the answer is how many */
+static unsigned random_events(Session *body)
+{
+    unsigned count = 0, most = one_in(50) ? 4096 : below(400);
+    body->n = 0;
+    while (count < most)
+        count += one_in(3) ? line_events(body, most - count) : host_event(body);
+    return count;
+}
+
 static void events_session(Session *s)
 {
-    Session body = {.n = 0};
-    unsigned count = 0, most = one_in(50) ? 4096 : below(400);
-    while (count < most)
-        count += one_in(3) ? line_events(&body, most - count) : host_event(&body);
+    static Session body;
+    unsigned count = random_events(&body);
     s->n = 0;
     put(s, one_in(50) ? below(3) : 1);
     put(s, one_in(20) ? below(5000) : one_in(20) ? count + 1 : count);
@@ -769,7 +778,451 @@ static void one_session(void)
     compare_play(s.byte, s.n);
 }
 
-/* ---- the three parts */
+/* ---- the controller's calls against the player: two ways through the same rules. An event is made by a call, put into
+   a session and told as the line that is due. The session's listing must be these lines, byte for byte. */
+
+static Fence map_fence, row_fence;
+static struct { uint8_t *map, *row, fill; } lent;
+
+typedef struct { uint8_t map[FRAPMAST_MAP], row[FRAPMAST_ROW]; } Copy;
+
+static struct { Session body; char text[FRAPMAST_MOST_LISTING]; size_t length; unsigned count, driven; } played;
+
+/* events compared, and how often they reached what a name says */
+enum { STORED, SENT, REPLIED, ANSWERED, RETRIED, GIVEN_UP, MISTAKEN, FOUND, OUTCOMES };
+static const char *const outcomes[] = {"stored", "sent", "replies", "answers", "retries", "given up", "receive errors",
+                                       "line faults"};
+static unsigned long reached[OUTCOMES], compared;
+
+static void lend_state(void)
+{
+    lent.fill = one_in(4) ? 0 : draw();
+    lent.map = lend(map_fence, FRAPMAST_MAP, lent.fill);
+    lent.row = lend(row_fence, FRAPMAST_ROW, lent.fill);
+    if (one_in(4))
+        return;
+    for (size_t k = 0; k < FRAPMAST_MAP; k++)
+        lent.map[k] = draw();
+    for (size_t k = 0; k < FRAPMAST_ROW; k++)
+        lent.row[k] = draw();
+}
+
+static void copy_state(Copy *c)
+{
+    memcpy(c->map, lent.map, sizeof c->map);
+    memcpy(c->row, lent.row, sizeof c->row);
+}
+
+static bool state_is(const Copy *c)
+{
+    return memcmp(c->map, lent.map, sizeof c->map) == 0 && memcmp(c->row, lent.row, sizeof c->row) == 0;
+}
+
+static bool beside_state(void)
+{
+    return beside(map_fence, lent.map, FRAPMAST_MAP, lent.fill) && beside(row_fence, lent.row, FRAPMAST_ROW, lent.fill);
+}
+
+static void call_differs(const char *what, const Copy *before, unsigned kind, const unsigned *operand, int why)
+{
+    begin_difference(what);
+    printf("  event %u: kind %u, operands %u %u, answered %d\n", played.count, kind, operand[0], operand[1], why);
+    show("map before", before->map, sizeof before->map);
+    show("row before", before->row, sizeof before->row);
+    show("map", lent.map, FRAPMAST_MAP);
+    show("row", lent.row, FRAPMAST_ROW);
+    exit(1);
+}
+
+static int call(unsigned kind, const unsigned *operand, uint8_t *value)
+{
+    switch (kind) {
+    case 0: return frapmast_reset(lent.map, lent.row);
+    case 1: return frapmast_write(lent.map, lent.row, operand[0], operand[1]);
+    case 2: return frapmast_read(lent.map, lent.row, operand[0], value);
+    default: return frapmast_slot(lent.map, lent.row, operand[0], value);
+    }
+}
+
+/* An event by its call. A read and a refused call change no state, and a refused one writes 0 as its value. */
+static int called(unsigned kind, const unsigned *operand, uint8_t *answer)
+{
+    uint8_t fill = draw(), *value = lend(small, 1, fill);
+    Copy before;
+    copy_state(&before);
+    int why = call(kind, operand, value);
+    if (why > 8)
+        call_differs("an answer above 8", &before, kind, operand, why);
+    if ((why || kind == 2) && !state_is(&before))
+        call_differs("a read or a refused call changed the state", &before, kind, operand, why);
+    if (kind < 2 ? *value != fill : why ? *value != 0 : kind == 3 && *value > 1)
+        call_differs("value", &before, kind, operand, why);
+    if (!beside(small, value, 1, fill) || !beside_state())
+        call_differs("a byte beside was written", &before, kind, operand, why);
+    *answer = *value;
+    return why;
+}
+
+/* a register, or -1 where the read is refused; no event */
+static int peek(unsigned address)
+{
+    uint8_t value;
+    return called(2, (unsigned[]){address, 0}, &value) ? -1 : value;
+}
+
+/* the interrupt line by its registers, and nothing changes */
+static void compare_interrupt(void)
+{
+    int status = peek(0x09), enable = peek(0x0A);
+    Copy before;
+    copy_state(&before);
+    bool asserted = frapmast_interrupt(lent.map, lent.row);
+    if (!state_is(&before) || !beside_state() || (status >= 0 && asserted != ((status & enable) != 0)))
+        call_differs("interrupt", &before, 0, (unsigned[]){0, 0}, asserted);
+}
+
+/* ---- a run: its events, and their lines */
+
+__attribute__((format(printf, 1, 2)))
+static void tell(const char *format, ...)
+{
+    va_list values;
+    va_start(values, format);
+    played.length += vsnprintf(played.text + played.length, 80, format, values);
+    va_end(values);
+}
+
+static void tell_end(int why, const char *format, unsigned value)
+{
+    char end[40];
+    snprintf(end, sizeof end, why ? " refused %u" : format, why ? (unsigned)why : value);
+    tell("%s\n", end);
+}
+
+static void tell_event(unsigned kind, const unsigned *operand, int why, uint8_t value)
+{
+    tell("%u ", played.count);
+    switch (kind) {
+    case 0: tell("reset"), tell_end(why, " ok", 0); break;
+    case 1: tell("write %02X", operand[0]), tell_end(why, " ok", 0); break;
+    case 2: tell("read %02X", operand[0]), tell_end(why, " %02X", value); break;
+    case 3: tell("slot %u", operand[0]), tell_end(why, " drives %u", value); break;
+    default: tell("mark %u\n", operand[0]); break;
+    }
+}
+
+/* what the registers say of a slot: 0x04, 0x05 and 0x09 before and after it */
+static void count_reached(const int *before, const int *after)
+{
+    int raised = after[2] & ~before[2];
+    reached[STORED] += (raised & 3) != 0;
+    reached[SENT] += (raised & 8) != 0;
+    reached[REPLIED] += (raised & 8) && !(before[0] & 2);
+    reached[ANSWERED] += (raised & 8) && (raised & 3);
+    reached[RETRIED] += after[1] >> 4 > before[1] >> 4;
+    reached[GIVEN_UP] += (raised & 16) != 0;
+    reached[MISTAKEN] += (raised & 4) != 0;
+    reached[FOUND] += (after[0] & ~before[0] & 12) != 0;
+}
+
+static void peek_statuses(int *status)
+{
+    status[0] = peek(0x04), status[1] = peek(0x05), status[2] = peek(0x09);
+}
+
+static const int operands_of[] = {0, 2, 1, 1, 1};
+
+static void event(unsigned kind, unsigned first, unsigned second)
+{
+    unsigned operand[] = {first, second};
+    int before[3], after[3], why = 0;
+    uint8_t value = 0;
+    if (played.count == 4096)
+        return;
+    put(&played.body, kind);
+    for (int k = 0; k < operands_of[kind]; k++)
+        put(&played.body, operand[k]);
+    peek_statuses(before);
+    if (kind < 4)
+        why = called(kind, operand, &value);
+    peek_statuses(after);
+    if (kind == 3 && before[0] >= 0)
+        count_reached(before, after);
+    if (kind == 3 && !why)
+        played.driven = value ^ (lent.map[0] >> 1 & 1); /* before the inversion by IVTX */
+    compare_interrupt();
+    tell_event(kind, operand, why, value);
+    played.count++;
+}
+
+/* events that stand in a session's form */
+static void events_of(const Session *body, unsigned count)
+{
+    size_t at = 0;
+    while (count-- > 0) {
+        unsigned operand[2] = {0, 0}, kind = number(body->byte, body->n, &at);
+        for (int k = 0; k < operands_of[kind]; k++)
+            operand[k] = number(body->byte, body->n, &at);
+        event(kind, operand[0], operand[1]);
+    }
+}
+
+static void begin_run(void)
+{
+    lend_state();
+    frapmast_fresh(lent.map, lent.row);
+    played.body.n = played.length = played.count = 0;
+    played.driven = 1;
+}
+
+static void compare_run(void)
+{
+    static Session s;
+    static char due[FRAPMAST_MOST_LISTING + 80];
+    static uint8_t listing[FRAPMAST_MOST_LISTING];
+    size_t length, n = sprintf(due, "events %u\n", played.count);
+    memcpy(due + n, played.text, played.length);
+    n += played.length;
+    n += sprintf(due + n, "end %u\n", played.count);
+    s.n = 0;
+    put(&s, 1), put(&s, played.count);
+    memcpy(s.byte + s.n, played.body.byte, played.body.n);
+    s.n += played.body.n;
+    int got = frapmast_play(s.byte, s.n, listing, sizeof listing, &length);
+    compared += played.count;
+    if (!got && length == n && memcmp(listing, due, n) == 0)
+        return;
+    printf("due by the calls:\n%.*s", (int)n, due);
+    session_differs("calls and player", s.byte, s.n, got, listing, length);
+}
+
+/* ---- a bus: the model, and another module that sends, answers and acknowledges. A slot is dominant where one drives
+   it so. `bus` is the frame under way as the line shows it, `own` what the other module sends of it. */
+
+static struct { Slots bus, own; bool sends; unsigned closing, rest, wires; uint32_t base; } bench;
+
+static uint32_t random_identifier(void)
+{
+    return one_in(12) ? below(4096) : one_in(3) ? bench.base ^ 1 << below(6) : bench.base;
+}
+
+static void begin(Frame *f)
+{
+    f->acknowledge = one_in(2) && (f->command & 4 || one_in(8));
+    slots_of(f, &bench.own);
+    if (one_in(8))
+        damage(&bench.own);
+    bench.sends = true;
+}
+
+static void begin_frame(void)
+{
+    static const uint8_t commands[] = {0xC, 0x8, 0xC, 0xF, 0xB, 0xE, 0xA};
+    Frame f;
+    random_frame(&f);
+    f.identifier = random_identifier();
+    f.command = one_in(16) ? below(16) : commands[below(sizeof commands)];
+    f.n = f.command % 2 && !one_in(16) ? 0 : one_in(8) ? f.n : below(5);
+    begin(&f);
+}
+
+/* a request was heard up to R/W: the other module answers from RTR on */
+static void begin_answer(void)
+{
+    Frame f;
+    Row row = {.n = 0};
+    for (size_t i = 10; i < 28; i++)
+        if (i % 5 != 4)
+            row.bit[row.n++] = bench.bus.slot[i];
+    random_frame(&f);
+    f.identifier = part(&row, 0, 12);
+    f.command = 2 * part(&row, 12, 3);
+    f.n = below(6);
+    begin(&f);
+}
+
+/* what the other module drives: its frame, an answer, an acknowledge, noise or nothing */
+static unsigned others(void)
+{
+    size_t n = bench.bus.n;
+    if (one_in(1500))
+        return 0;
+    if (!bench.sends && bench.closing == 2)
+        return bench.bus.slot[26] == one_in(8); /* where RAK asks for it, most often */
+    if (!bench.sends && n == 28 && bench.bus.slot[27] && one_in(2))
+        begin_answer();
+    return bench.sends && n < bench.own.n ? bench.own.slot[n] % 2 : 1;
+}
+
+/* the line's level into the frame under way: the pair 00 ends its data, ten slots later it is over */
+static void heard(unsigned level)
+{
+    Slots *bus = &bench.bus;
+    bench.rest = level && bus->n == 0 ? bench.rest + 1 : 0;
+    if (bench.rest)
+        return;
+    if (bench.sends && bus->n < bench.own.n && bench.own.slot[bus->n] % 2 && !level)
+        bench.sends = false;
+    bus->slot[bus->n++] = level;
+    bool paired = bus->n > 10 && bus->n % 5 == 0 && level == bus->slot[bus->n - 2];
+    if (bench.closing)
+        bench.closing++;
+    else if (paired && !level)
+        bench.closing = 1;
+    if (bench.closing == 11 || (!bench.closing && paired && level) || bus->n == 400)
+        bus->n = bench.closing = 0, bench.sends = false;
+}
+
+static void bus_slot(void)
+{
+    if (bench.bus.n == 0 && !bench.sends && one_in(bench.rest < 12 ? 100 : 12))
+        begin_frame();
+    unsigned level = others() & played.driven, levels = level ? 7 : bench.wires;
+    if (one_in(3000))
+        levels = below(8);
+    event(3, levels ^ (lent.map[0] & 1 ? 7 : 0), 0);
+    heard(level);
+}
+
+/* ---- the host of a run */
+
+static void arm(unsigned channel)
+{
+    unsigned status = one_in(20) ? below(8) : below(4), length = one_in(8) ? below(32) : one_in(12) ? 0 : 1 + below(8);
+    event(1, 0x13 + 8 * channel, 8 * length + status);
+}
+
+/* identifier, command, pointer, mask; then length and status */
+static void set_channel(unsigned channel)
+{
+    unsigned at = 0x10 + 8 * channel, identifier = random_identifier();
+    unsigned mask = one_in(8) ? below(4096) : one_in(2) ? 0xFC0 : 0xFFF;
+    event(1, at, identifier >> 4);
+    event(1, at + 1, (identifier & 15) << 4 | (one_in(20) ? below(16) : 8 + below(8)));
+    event(1, at + 2, one_in(8) ? below(256) : below(128));
+    event(1, at + 6, mask >> 4);
+    event(1, at + 7, (mask & 15) << 4);
+    arm(channel);
+}
+
+static void set_up(void)
+{
+    bench.base = below(4096), bench.wires = 0;
+    bench.bus.n = bench.closing = bench.rest = 0, bench.sends = false;
+    for (unsigned k = 0; k < 14; k++)
+        if (one_in(3))
+            set_channel(k);
+        else
+            event(1, 0x13 + 8 * k, 3);
+    event(1, 0x01, below(4) << 4 | 2 | !one_in(3));
+    event(1, 0x02, one_in(2) ? 0 : one_in(2) ? 12 : below(256));
+    event(1, 0x00, one_in(8) ? below(4) : 0);
+    event(1, 0x0A, below(256));
+    event(1, 0x03, 0x10);
+}
+
+static void host_turn(void)
+{
+    static Session one;
+    switch (below(14)) {
+    case 0: case 1: case 2: case 3: arm(below(14)); break;
+    case 4: set_channel(below(14)); break;
+    case 5: event(2, 4 + below(4), 0), event(2, 9, 0); break;
+    case 6: case 11: case 12: event(1, 0x0B, one_in(4) ? below(256) : 0xFF); break;
+    case 7: event(1, 0x03, one_in(20) ? 0x40 : 0x10 | (one_in(3) ? 8 : 0) | one_in(6)); break;
+    case 8: bench.wires = one_in(4) ? below(7) : 0; break; /* the levels of a dominant slot */
+    case 9: event(2, 0x80 + below(128), 0); break;
+    case 10: one.n = 0, events_of(&one, host_event(&one)); break;
+    default: if (one_in(8) || peek(0x04) < 0) event(0, 0, 0), event(1, 0x03, 0x10); break;
+    }
+}
+
+static void bus_run(unsigned most)
+{
+    set_up();
+    while (played.count < most) {
+        if (one_in(25))
+            host_turn();
+        bus_slot();
+    }
+}
+
+static void one_run(void)
+{
+    static Session body;
+    begin_run();
+    if (one_in(4)) {
+        unsigned count = random_events(&body);
+        events_of(&body, count);
+    } else {
+        bus_run(one_in(8) ? 4096 : 100 + below(1500));
+    }
+    compare_run();
+}
+
+static void tell_runs(void)
+{
+    printf("  %lu events", compared);
+    for (int k = 0; k < OUTCOMES; k++)
+        printf(", %lu %s", reached[k], outcomes[k]);
+    printf("\n");
+}
+
+/* ---- any bytes as map and row */
+
+/* some bytes changed, or all of them; small numbers more often than not, so that many are in their ranges */
+static void spoil_state(void)
+{
+    size_t faults = one_in(8) ? 400 : 1 + below(6);
+    while (faults-- > 0) {
+        uint8_t byte = one_in(2) ? below(5) : one_in(2) ? below(16) : draw();
+        if (one_in(4))
+            lent.map[below(FRAPMAST_MAP)] = byte;
+        else
+            lent.row[below(FRAPMAST_ROW)] = byte;
+    }
+}
+
+static unsigned long out_of_range, in_range;
+
+/* any event by its call: 6 where a read is refused with 6, and only there */
+static void any_event(void)
+{
+    unsigned kind = below(8) < 5 ? 3 : below(16) ? 1 + below(2) : 0, address = random_address();
+    unsigned operand[] = {kind == 3 ? below(one_in(20) ? 65536 : 8) : address, random_value(address)};
+    uint8_t value;
+    Copy before;
+    copy_state(&before);
+    bool broken = called(2, (unsigned[]){0x80, 0}, &value) == 6;
+    int why = called(kind, operand, &value);
+    out_of_range += broken, in_range += !broken;
+    if ((why == 6) != broken)
+        call_differs("6 by one call, and not by another", &before, kind, operand, why);
+    compare_interrupt();
+}
+
+/* any bytes at first; then the state that a run left, spoiled, and events; and so again */
+static void one_state(void)
+{
+    Copy good;
+    lend_state();
+    any_event();
+    begin_run();
+    bus_run(100 + below(300));
+    copy_state(&good);
+    for (size_t k = 20 + below(100); k > 0; k--) {
+        if (one_in(8)) {
+            memcpy(lent.map, good.map, sizeof good.map);
+            memcpy(lent.row, good.row, sizeof good.row);
+            spoil_state();
+        }
+        any_event();
+    }
+}
+
+static void tell_states(void) { printf("  %lu events in range, %lu out of range\n", in_range, out_of_range); }
+
+/* ---- the parts */
 
 static void run(const char *name, unsigned long n, void (*one)(void))
 {
@@ -794,9 +1247,10 @@ static void read_example(const char *path)
 int main(int n, char **word)
 {
     static const int signals[] = {SIGSEGV, SIGBUS, SIGILL, SIGFPE, SIGTRAP};
-    unsigned long frames = 1000000, lists = 1000000, sessions = 100000, *given[] = {&seed, &frames, &lists, &sessions};
-    if (n < 2 || n > 6) {
-        fprintf(stderr, "usage: compare FILE [SEED [FRAMES [LISTS [SESSIONS]]]]\n");
+    unsigned long frames = 1000000, lists = 1000000, sessions = 100000, runs = 10000;
+    unsigned long *given[] = {&seed, &frames, &lists, &sessions, &runs};
+    if (n < 2 || n > 7) {
+        fprintf(stderr, "usage: compare FILE [SEED [FRAMES [LISTS [SESSIONS [RUNS]]]]]\n");
         return 2;
     }
     for (int i = 2; i < n; i++)
@@ -805,6 +1259,7 @@ int main(int n, char **word)
         signal(signals[i], crashed);
     read_example(word[1]);
     input = fence(LONGEST), room = fence(FRAPMAST_MOST_LISTING + 1000), small = fence(100);
+    map_fence = fence(FRAPMAST_MAP), row_fence = fence(FRAPMAST_ROW);
     state = seed;
     check_captured();
     run("frames", frames, one_frame);
@@ -815,6 +1270,11 @@ int main(int n, char **word)
     compare_play(example.byte, example.n);
     run("sessions", sessions, one_session);
     printf("  %lu end, %lu bad, %lu events, %lu of them drive a 0\n", ends, bads, events, dominant);
-    printf("%lu frames, %lu damaged slot lists, %lu sessions: no difference\n", frames, lists, sessions);
+    run("runs by calls and by the player", runs, one_run);
+    tell_runs();
+    run("states of any bytes", runs, one_state);
+    tell_states();
+    printf("%lu frames, %lu damaged slot lists, %lu sessions, %lu runs, %lu states: no difference\n", frames, lists,
+           sessions, runs, runs);
     return 0;
 }

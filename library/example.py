@@ -1,5 +1,5 @@
 #!/usr/bin/env python3
-"""The library from Python, by ctypes: a frame to slots and back, and a session to its listing.
+"""The library from Python, by ctypes: a frame to slots and back, a session to its listing, a controller slot by slot.
 
 Usage: library/example.py [SESSION]    (SESSION: a recorded session; examples/wiper.session)
 
@@ -13,6 +13,7 @@ import sys
 HERE = os.path.dirname(os.path.dirname(os.path.abspath(__file__)))
 SHARED = os.path.join(HERE, "target", "library", "libfrapmast.so")
 MOST_BYTES, MOST_SLOTS, MOST_LISTING = 30, 360, 327840
+MAP, ROW = 256, 176
 
 
 class Refused(Exception):
@@ -29,7 +30,22 @@ def load(path):
     library.frapmast_play.argtypes = [data, size, room, size, count]
     for call in (library.frapmast_encode, library.frapmast_decode, library.frapmast_play):
         call.restype = ctypes.c_uint8
+    load_controller(library, room)
     return library
+
+
+def load_controller(library, room):
+    """The types of the controller's calls: a map and a row, then what the call is given and where its value goes."""
+    number, value = ctypes.c_uint16, ctypes.POINTER(ctypes.c_uint8)
+    for call, more, answer in [
+        (library.frapmast_fresh, [], None),
+        (library.frapmast_reset, [], ctypes.c_uint8),
+        (library.frapmast_write, [number, number], ctypes.c_uint8),
+        (library.frapmast_read, [number, value], ctypes.c_uint8),
+        (library.frapmast_slot, [number, value], ctypes.c_uint8),
+        (library.frapmast_interrupt, [], ctypes.c_bool),
+    ]:
+        call.argtypes, call.restype = [room, room] + more, answer
 
 
 def accepted(number):
@@ -58,10 +74,69 @@ def play(library, session):
     return room.raw[:length.value].decode("ascii")
 
 
+class Controller:
+    """A fresh controller. Its state is a map and a row, which each call is lent."""
+
+    def __init__(self, library):
+        self.library = library
+        self.state = ctypes.create_string_buffer(MAP), ctypes.create_string_buffer(ROW)
+        library.frapmast_fresh(*self.state)
+
+    def reset(self):
+        accepted(self.library.frapmast_reset(*self.state))
+
+    def write(self, address, value):
+        accepted(self.library.frapmast_write(*self.state, address, value))
+
+    def read(self, address):
+        value = ctypes.c_uint8()
+        accepted(self.library.frapmast_read(*self.state, address, value))
+        return value.value
+
+    def slot(self, levels):
+        """The level that the model drives in the next slot. Levels are RxD0 + 2 RxD1 + 4 RxD2."""
+        level = ctypes.c_uint8()
+        accepted(self.library.frapmast_slot(*self.state, levels, level))
+        return level.value
+
+    def interrupt(self):
+        return self.library.frapmast_interrupt(*self.state)
+
+
 def told(frame):
     identifier, command, data, acknowledge = frame
     present = "present" if acknowledge else "absent"
     return f"identifier {identifier:03X}, command {command:04b}, data {data.hex(' ').upper()}, acknowledge {present}"
+
+
+def receiver(library):
+    """A controller whose channel 3 takes identifier 8C4 into the mailbox at 0x90; ROK interrupts; the line is free."""
+    model = Controller(library)
+    model.reset()
+    for address, value in [(0x28, 0x8C), (0x29, 0x4D), (0x2A, 0x10), (0x2B, 0x20), (0x2E, 0xFF), (0x2F, 0xF0)]:
+        model.write(address, value)
+    model.write(0x0B, 0x80)  # RST is seen
+    model.write(0x0A, 0x02)  # ROK shall interrupt
+    model.write(0x03, 0x10)  # active
+    for _ in range(12):
+        model.slot(7)
+    return model
+
+
+def received(library, frame):
+    """The frame slot by slot, its acknowledge left to the model: a slot is dominant where the sender or the model is."""
+    model, driven, bus = receiver(library), 1, []
+    asserted = model.interrupt()
+    for place, level in enumerate(encode(library, *frame[:3], False)):
+        bus.append(level & driven)
+        driven = model.slot(7 if bus[-1] else 0)
+        if driven == 0:
+            print(f"slot {place}: the model drives 0 in the next slot, the acknowledge")
+    status, stored = model.read(0x2B), bytes(model.read(0x90 + k) for k in range(4))
+    lines = asserted, model.interrupt()
+    print(f"channel 3: {status:02X}, mailbox: {stored.hex(' ').upper()}, interrupt: {lines[0]}, then {lines[1]}")
+    whole = decode(library, bytes(bus)) == frame
+    return whole and (status, stored, *lines) == (0x21, b"\x83" + frame[2], False, True)
 
 
 def main(words):
@@ -95,6 +170,8 @@ def main(words):
     print(f"listing: lines {len(lines)}, the first `{lines[0]}`, the last `{lines[-1]}`")
     if back != frame:
         sys.exit("example.py: the frame decoded is not the one encoded")
+    if not received(library, frame):
+        sys.exit("example.py: the controller did not take the frame")
 
 
 if __name__ == "__main__":
