@@ -95,7 +95,7 @@ fn answer(m: &mut [u8; 256], row: &mut [u8; row::ROW], e: Event) -> Answered
     match e {
         Event::Reset => within::pin_reset(m, row),
         Event::Write(address, value) => within::host_write(m, row, address, value),
-        Event::Read(address) => within::host_read(m, row, address),
+        Event::Read(address) => within::host_read_on(m, row, address),
         Event::Slot(levels) => within::slot(m, row, levels),
         Event::Mark(_) => Answered {
             refused: 0,

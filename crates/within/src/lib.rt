@@ -157,8 +157,22 @@ pub fn host_write(m: &mut [u8; 256], s: &mut [u8; row::ROW], address: u16, value
     other(m, s, Event::Write(address, value))
 }
 
+// Map and row lent for reading alone.
 pub fn host_read(m: &[u8; 256], s: &[u8; row::ROW], address: u16) -> Answered
     ensures { λ r. ⌜ rule.answer r (now (m .entry)) (now (s .entry)) ≡ run.step (answers.controller (now (m .entry)) (row_rule.coreOf (now (s .entry)))) (event.Read address) ⌝ }
+{
+    let x = host_read::host_read_on(m, row::core_of(s), address);
+    let reply = x.reply;
+    Answered {
+        refused: refused_by(reply),
+        value: value_of(reply),
+    }
+}
+
+// The same with both lent as for the other calls: a plain read in place.
+pub fn host_read_on(m: &mut [u8; 256], s: &mut [u8; row::ROW], address: u16) -> Answered
+    ensures answer { λ r. ⌜ rule.answer r (now (m .exit)) (now (s .exit)) ≡ run.step (answers.controller (now (m .entry)) (row_rule.coreOf (now (s .entry)))) (event.Read address) ⌝ }
+    ensures kept { λ r. ⌜ rule.Unchanged (r .refused) (now (m .entry)) (now (s .entry)) (now (m .exit)) (now (s .exit)) ⌝ }
 {
     if plain(m, s, address) {
         return Answered {
@@ -166,10 +180,5 @@ pub fn host_read(m: &[u8; 256], s: &[u8; row::ROW], address: u16) -> Answered
             value: m[(address % 256) as usize],
         };
     }
-    let x = host_read::host_read_on(m, row::core_of(s), address);
-    let reply = x.reply;
-    Answered {
-        refused: refused_by(reply),
-        value: value_of(reply),
-    }
+    other(m, s, Event::Read(address))
 }

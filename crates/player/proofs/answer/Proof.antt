@@ -20,6 +20,6 @@ answer-spec =
     (λ c. search needs)
     (λ c. rw (c .before .before .before .enum-told .given .1) (c .pin-reset .ensures .0))
     (λ c. rw (c .before .before .before .before .e .given .1) (c .host-write .ensures .0))
-    (λ c. rw (c .before .before .before .before .e2 .given .1) (c .host-read .ensures))
+    (λ c. rw (c .before .before .before .before .e2 .given .1) (c .host-read-on .ensures .0))
     (λ c. rw (c .before .before .before .before .e3 .given .1) (c .slot .ensures .0))
     (λ c. rw (c .enum-told2 .given .1)))
