@@ -9,11 +9,11 @@ pub core-of-spec : {M : Type 1} → statement M
 unfolding coreOf coreBy
 core-of-spec =
     tie.close (tie.spec
-    (λ c κs. search needs)
-    (λ c κs. search needs)
-    (λ c κs. search needs)
-    (λ c κs. search needs)
-    (λ c κs. search needs)
-    (λ c κs. search needs)
-    (λ c κs. search needs)
+    (λ c κs. tt)
+    (λ c κs. tt)
+    (λ c κs. tt)
+    (λ c κs. tt)
+    (λ c κs. tt)
+    (λ c κs. tt)
+    (λ c κs. tt)
     (λ c. simp (← (c .diagnosis-of .ensures), ← (c .before .reply-of .ensures), ← (c .before .before .service-of .ensures), ← (c .before .before .before .reception-of .ensures), ← (c .before .before .before .before .line-of .ensures), ← (c .before .before .before .before .before .report-of .ensures), ← (c .before .before .before .before .before .before .activity-of .ensures))))

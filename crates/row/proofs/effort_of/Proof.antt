@@ -7,8 +7,8 @@ use Rattle.row.proofs.effort_of.Tie as tie
 pub effort-of-spec : {M : Type 1} → statement M
 effort-of-spec =
     tie.close (tie.spec
-    (λ c κs. search needs)
+    (λ c κs. tt)
     (λ c. search needs)
-    (λ c κs. search needs)
-    (λ c κs. search needs)
+    (λ c κs. tt)
+    (λ c κs. tt)
     (λ c. simp (← (c .counters-of .ensures), ← (c .before .progress-of .ensures), ← (c .before .before .before .own-of .ensures))))

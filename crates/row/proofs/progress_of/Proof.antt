@@ -1,4 +1,5 @@
 use borrow.Author.Needs.{needs}
+use native.Mathlib.Omega.{arith}
 use mathlib.Core.Path.{refl}
 use borrow.Author.Tests.{lt-ltb, le-ltb, le-leb, lt-leb, eq-eqb, ne-eqb}
 use Rattle.row.proofs.progress_of.Statement.{statement}
@@ -8,6 +9,6 @@ pub progress-of-spec : {M : Type 1} → statement M
 progress-of-spec =
     tie.close (tie.spec
     (λ c. search needs)
-    (λ c κs. search needs)
-    (λ c κs. search needs)
+    (λ c κs. tt)
+    (λ c κs. omega arith)
     (λ c. simp (← (c .half .ensures), ← (c .before .stage-of .ensures))))

@@ -19,9 +19,9 @@ returns c =
 pub put-activity-spec : {M : Type 1} → statement M
 put-activity-spec =
     tie.close (tie.spec
-    (λ c κs. search needs)
-    (λ c κs. search needs)
+    (λ c κs. tt)
+    (λ c κs. tt)
     (λ c. search needs)
-    (λ c κs. search needs)
+    (λ c κs. tt)
     (λ c. search needs)
     returns)

@@ -18,7 +18,7 @@ returns c =
 pub put-heard-spec : {M : Type 1} → statement M
 put-heard-spec =
     tie.close (tie.spec
-    (λ c κs. search needs)
+    (λ c κs. tt)
     (λ c. search needs)
     (λ c. search needs)
     returns)

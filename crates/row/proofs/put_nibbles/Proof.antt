@@ -16,6 +16,6 @@ returns c =
 pub put-nibbles-spec : {M : Type 1} → statement M
 put-nibbles-spec =
     tie.close (tie.spec
-    (λ c κs. search needs)
+    (λ c κs. tt)
     (λ c. search needs)
     returns)

@@ -20,8 +20,8 @@ returns c =
 pub put-place-spec : {M : Type 1} → statement M
 put-place-spec =
     tie.close (tie.spec
-    (λ c κs. search needs)
-    (λ c κs. search needs)
+    (λ c κs. tt)
+    (λ c κs. tt)
     (λ c. search needs)
     (λ c. search needs)
     returns)

@@ -17,6 +17,6 @@ returns c =
 pub put-slot-spec : {M : Type 1} → statement M
 put-slot-spec =
     tie.close (tie.spec
-    (λ c κs. search needs)
+    (λ c κs. tt)
     (λ c. search needs)
     returns)

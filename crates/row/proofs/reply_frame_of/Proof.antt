@@ -1,4 +1,5 @@
 use borrow.Author.Needs.{needs}
+use native.Mathlib.Omega.{arith}
 use mathlib.Core.Path.{refl}
 use borrow.Author.Tests.{lt-ltb, le-ltb, le-leb, lt-leb, eq-eqb, ne-eqb}
 use Rattle.row.proofs.reply_frame_of.Statement.{statement}
@@ -8,5 +9,5 @@ pub reply-frame-of-spec : {M : Type 1} → statement M
 reply-frame-of-spec =
     tie.close (tie.spec
     (λ c. search needs)
-    (λ c κs. search needs)
+    (λ c κs. omega arith)
     (λ c. simp (← (c .frame-at .ensures))))

@@ -1,4 +1,5 @@
 use borrow.Author.Needs.{needs}
+use native.Mathlib.Omega.{arith}
 use mathlib.Core.Path.{refl}
 use borrow.Author.Tests.{lt-ltb, le-ltb, le-leb, lt-leb, eq-eqb, ne-eqb}
 use Rattle.row.proofs.reply_of.Statement.{statement}
@@ -9,6 +10,6 @@ reply-of-spec =
     tie.close (tie.spec
     (λ c. search needs)
     (λ c. search needs)
-    (λ c κs. search needs)
-    (λ c κs. search needs)
+    (λ c κs. omega arith)
+    (λ c κs. tt)
     (λ c. simp (← (c .reply-frame-of .ensures), ← (c .before .half .ensures))))

@@ -10,5 +10,5 @@ service-of-spec =
     (λ c. search needs)
     (λ c. search needs)
     (λ c. search needs)
-    (λ c κs. search needs)
+    (λ c κs. tt)
     (λ c. simp (← (c .effort-of .ensures))))
