@@ -184,7 +184,7 @@ fn whole(s: &[u8; ROW]) -> [u8; ROW]
 }
 
 // Tells a proof how long the row is: its type says so. It does nothing.
-pub fn length_known(s: &[u8; ROW])
+fn length_known(s: &[u8; ROW])
     ensures { λ _. ⌜ length (now (s .entry)) ≡ 176 ⌝ }
 {
     let t = whole(s);
@@ -613,7 +613,7 @@ fn put_report(s: &mut [u8; ROW], x: Report)
     put_flags(s, x.flags);
 }
 
-pub fn put_line(s: &mut [u8; ROW], l: Line)
+fn put_line(s: &mut [u8; ROW], l: Line)
     ensures { λ _. ⌜ rule.coreOf (now (s .exit)) ≡ setter.withLine (rule.coreOf (now (s .entry))) l ⌝ }
 {
     length_known(s);
@@ -662,7 +662,7 @@ pub fn put_progress(s: &mut [u8; ROW], p: Progress)
     put_half(s, At::NEXT, p.at);
 }
 
-pub fn put_counters(s: &mut [u8; ROW], c: Counters)
+fn put_counters(s: &mut [u8; ROW], c: Counters)
     ensures { λ _. ⌜ rule.coreOf (now (s .exit)) ≡ setter.withService (rule.coreOf (now (s .entry))) (setter.withEffort ((rule.coreOf (now (s .entry))) .service) (setter.withCounters ((rule.coreOf (now (s .entry))) .service .effort) c)) ⌝ }
 {
     length_known(s);
