@@ -1,6 +1,6 @@
 -- A plain host access: no refusal is due, and a write only keeps its byte.
 use Prim.Native.Nat.{ℕ, _%_, _≤_, _<_}
-use mathlib.Core.Bool.{Bool, true, false, false≢true, not, _&&_}
+use mathlib.Core.Bool.{Bool, true, false, not}
 use mathlib.Core.List.{List}
 use mathlib.Core.Path.{_≡_, refl, sym, ap, _∙_}
 use native.Mathlib.Omega.{arith}
@@ -22,6 +22,7 @@ use Rattle.rules.specs.declared.Ending.the-variants.{Going}
 use Rattle.rules.specs.declared.Core.{Core}
 use Rattle.rules.proofs.Logic.{both-false}
 use Rattle.row.specs.Row.{modeOf, stageOf, coreOf}
+use Rattle.ordinary.proofs.Samples.{no-idle}
 use Rattle.within.specs.Lent.{Plain, KeptAlone}
 
 no-register : (a n : ℕ) → 16 ≤ a → n < 16 → eqb a n ≡ false
@@ -59,10 +60,6 @@ goes-on m s address value p = rw (p .between)
 unwritten : (m s : List ℕ) (address value v : ℕ) → KeptAlone m s address value → coreWritten (coreOf s) address v ≡ coreOf s
 unfolding coreWritten
 unwritten m s address value v p = rw (no-register address 3 (p .plain .low) (omega arith), no-register address 11 (p .plain .low) (omega arith))
-
-no-idle : (k : Core) → k .activity .waiting ≡ false → idleDue k ≡ k
-unfolding idleDue
-no-idle k e = rw e
 
 unended : (k : Core) (x : Ending) → x ≡ Going → withService (withReport k (reportEnded x (k .report) (k .service))) (settled x (k .service)) ≡ k
 unfolding reportEnded settled
@@ -103,10 +100,6 @@ read-plainly m s address p =
     rw (p .range, p .awake, le-ltb 255 address (omega (arith, p .high)), not-write-only address (p .low), not-reserved address (p .low), not-read-only address (p .low))
 
 -- ---- what the tests say
-
-pub and-true : (a b : Bool) → a && b ≡ true → (a ≡ true) × (b ≡ true)
-and-true true b e = (refl, e)
-and-true false b e = absurd (false≢true e)
 
 pub wakes : (b : ℕ) → b < 2 → isAsleep (modeOf b) ≡ false
 unfolding isAsleep

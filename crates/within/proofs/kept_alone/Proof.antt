@@ -6,7 +6,8 @@ use borrow.Author.Tests.{ltb-true}
 use Rattle.rules.specs.Definitions.Attempt.{inService, betweenAttempts}
 use Rattle.rules.proofs.Logic.{not-true}
 use Rattle.row.specs.Row.{byteAt, coreBy, coreOf}
-use Rattle.within.proofs.Access.{and-true, resting}
+use Rattle.ordinary.proofs.OwnFrame.{and-true}
+use Rattle.within.proofs.Access.{resting}
 use Rattle.within.proofs.kept_alone.Statement.{statement}
 use Rattle.within.proofs.kept_alone.Tie as tie
 

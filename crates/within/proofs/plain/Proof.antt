@@ -3,7 +3,8 @@ use mathlib.Core.Path.{_≡_, refl, sym, ap, subst, _∙_}
 use lib.Dec.{ltb, leb}
 use borrow.Author.Tests.{ltb-true, leb-true}
 use Rattle.row.specs.Row.{byteAt, coreBy, coreOf}
-use Rattle.within.proofs.Access.{and-true, wakes}
+use Rattle.ordinary.proofs.OwnFrame.{and-true}
+use Rattle.within.proofs.Access.{wakes}
 use Rattle.within.proofs.plain.Statement.{statement}
 use Rattle.within.proofs.plain.Tie as tie
 
