@@ -1,6 +1,6 @@
 /* The frame codec, the bench player and the controller for C. The functions are proved in crates/frapmast;
-   `library/run` builds the archive, target/staticlib/libfrapmast.a, and links target/library/libfrapmast.so from it
-   (x86-64 Linux; of the C library they need at most memcpy and memset). library/example.py calls libfrapmast.so from
+   `library/build` builds the archive, target/staticlib/libfrapmast.a, and links target/library/libfrapmast.so from it
+   (x86-64 Linux; of the C library they need at most memcpy and memset). library/frapmast.py calls libfrapmast.so from
    Python.
 
    How to call

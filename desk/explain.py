@@ -1,0 +1,165 @@
+"""The listing of a session with what each line means. This is not proved. It shows what the proved player and the calls of libfrapmast.so answer."""
+import frapmast
+
+from .frame_words import frame_fails, frame_words
+from .frames import gathered, parts
+from .registers import COMMAND, LINE, NAMES, REFUSED, TRANSMIT, byte
+from .sessions import MARK, READ, WRITE, Played, broken
+from .trace import SA, SB, SC, Trace
+
+CONDITION = {0: "no fault on a wire", SA: "Sa, fault on DATA (RxD1)", SB: "Sb, fault on DATA-bar (RxD2)", SA | SB: "Sa Sb, major error"}
+PAUSE = 8  # recessive slots that end a stretch in which no frame is found
+ROW = 40  # levels that a line shows
+
+
+class Line:
+    """A line of the output: the events that it is about, its words, and what it is: frame, error, quiet or none of these."""
+
+    def __init__(self, first, last, words, *kinds):
+        self.first, self.last, self.words, self.kinds = first, last, words, kinds
+
+
+def explained(library, session):
+    """The lines of a session. The first and the last one are about no event."""
+    played = Played(library, session)
+    lines = [Line(None, None, played.lines[0])] if played.count is not None else []
+    for group in gathered(library, Trace(library, played)):
+        lines += slot_lines(library, group) if group.steps[0].is_slot() else [host_line(group.steps[0])]
+    if played.bad:
+        return lines + [Line(None, None, f"{played.last}: {broken(played)}", "error")]
+    return lines + [Line(None, None, f"{played.last}: every event was read")]
+
+
+# ---- resets, host access, marks, refused slots
+
+
+def host_line(step):
+    kind, numbers = step.event.kind, step.event.numbers
+    value = f" {numbers[1]:02X}" if kind == WRITE else ""
+    if step.refused:
+        return Line(step.number, step.number, step.line.replace(" refused", f"{value} refused") + f": {refusal(step)}", "error")
+    words = step.line.removesuffix(" ok") + value if kind == WRITE else step.line
+    if kind == MARK:
+        return Line(step.number, step.number, f"{words}: no effect")
+    meaning = byte(step.after.map, numbers[0], numbers[1] if kind == WRITE else step.answer) if kind in (READ, WRITE) else "pin reset"
+    more = changes(step.before, step.after)
+    kinds = ["error"] * any(word.startswith(("Sa", "Sb")) for word in more)
+    return Line(step.number, step.number, "; ".join([f"{words}: {meaning}"] + ended(step) + more), *kinds)
+
+
+def refusal(step):
+    """Why an event was refused."""
+    address, name = step.event.numbers[0], NAMES.get(step.event.numbers[0])
+    if step.refused in (3, 4):
+        return f"{name} is {'read' if step.refused == 3 else 'write'} only" if name else "a reserved register"
+    if step.refused == 8:
+        return {TRANSMIT: "bits 3 to 1, the version, are 001", COMMAND: "bits 2 and 1 are 00"}[address]
+    return REFUSED[step.refused]
+
+
+def ended(step):
+    """What a reset or a write cuts off."""
+    words = ["the frame under way is dropped"] if step.before.frame() and not step.after.frame() else []
+    if step.before.service() and not step.after.service():
+        words.append(f"the service of channel {step.before.sending & 15} ends")
+    return words
+
+
+def changes(before, after):
+    """Changes of mode, diagnosis and interrupt line."""
+    words, differ = [], before.line ^ after.line
+    if after.mode != before.mode:
+        words.append(f"now {after.mode}")
+    if differ & (SA | SB):
+        words.append(CONDITION[after.line & (SA | SB)])
+    if differ & SC:
+        words.append("inputs differ (Sc)" if after.line & SC else "Sc 0")
+    if before.interrupt != after.interrupt:
+        words.append(f"interrupt line {'on' if after.interrupt else 'off'}")
+    return words
+
+
+# ---- slots
+
+
+def slot_lines(library, group):
+    frame = group.frame
+    if frame is None:
+        return [loose_line(steps, found) for steps, found in stretches(library, group.steps)]
+    if not frame.ended or frame.steps[-1] is not group.steps[-1]:
+        return [slots_line(group.steps, f"frame under way: {covered(frame, group.steps)}", "frame")]
+    begun = f"from {frame.steps[0].number} on: " if frame.steps[0] is not group.steps[0] else ""
+    kinds = ["frame"] + ["error"] * frame_fails(frame)
+    return [slots_line(group.steps, begun + "; ".join(frame_words(frame)), *kinds)]
+
+
+def slots_line(steps, words, *kinds):
+    """A line about slots, with what changed in them. A change in the last of them has no number behind it."""
+    first, last = steps[0].number, steps[-1].number
+    more = [(change, step) for step in steps for change in slot_changes(step)]
+    if any(change.startswith(("Sa", "Sb")) for change, _ in more):
+        kinds += ("error",)
+    told = [change if step is steps[-1] else f"{change} at {step.number}" for change, step in more]
+    events = f"{first} to {last} slots" if last > first else f"{steps[0].line}"
+    return Line(first, last, "; ".join([f"{events}: {words}"] + told), *kinds)
+
+
+def slot_changes(step):
+    before, after, words = step.before, step.after, []
+    if after.service() and (not before.service() or (before.sending ^ after.sending) & 15):
+        words.append(f"channel {after.sending & 15} is chosen to send")
+    if before.service() and not after.service() and not step.raised & 0x18:
+        words.append(f"the service of channel {before.sending & 15} ends")
+    words += changes(before, after)
+    next_level = step.answer ^ after.map[LINE] >> 1 & 1
+    if next_level == 0 and not after.frame():
+        words.append("the model begins its frame in the next slot")
+    return words
+
+
+def covered(frame, steps):
+    """The parts of a frame that some of its slots are in, as far as they are known."""
+    first = frame.steps.index(steps[0])
+    names = parts(frame.levels())[first:first + len(steps)]
+    return names[0] if names[0] == names[-1] else f"{names[0]} to {names[-1]}"
+
+
+def stretches(library, steps):
+    """Slots without a frame under way, cut into stretches: recessive ones, frames that are not followed, other ones."""
+    levels, at = [step.sampled for step in steps], 0
+    while at < len(steps):
+        if levels[at] == 0:
+            behind, frame = dominant_stretch(library, levels, at)
+        else:
+            behind, frame = next((k for k in range(at, len(steps)) if levels[k] == 0), len(steps)), None
+        yield steps[at:behind], frame
+        at = behind
+
+
+def dominant_stretch(library, levels, at):
+    """Where a stretch that begins with a dominant slot ends, and its frame, if the proved decoder takes it for one."""
+    for behind in range(at + 60, min(at + 360, len(levels)) + 1, 10):
+        try:
+            return behind, frapmast.decode(library, bytes(levels[at:behind]))
+        except frapmast.Refused:
+            pass
+    return next((k for k in range(at, len(levels)) if levels[k:k + PAUSE] == [1] * PAUSE), len(levels)), None
+
+
+def loose_line(steps, frame):
+    """Slots without a frame under way."""
+    mode, last = steps[0].before.mode, steps[-1]
+    number = f"{len(steps)} slots" if len(steps) > 1 else "a slot"
+    if mode == "asleep":
+        return slots_line(steps, f"{number}, asleep: nothing is sampled", "quiet")
+    why = "the controller is idle" if mode == "idle" else "the line was not free"
+    if frame is not None:
+        identifier, command, data, acknowledge = frame
+        words = " ".join(["frame", f"{identifier:03X}", f"{command:X}"] + [f"{n:02X}" for n in data])
+        return slots_line(steps, f"{words}, {'' if acknowledge else 'not '}acknowledged; not followed: {why}", "frame", "error")
+    if steps[0].sampled == 0:
+        row = "".join(str(step.sampled) for step in steps)
+        return slots_line(steps, f"{row[:ROW]}{'..' * (len(row) > ROW)}; not followed: {why}", "error")
+    if mode == "idle":
+        return slots_line(steps, f"{number} recessive, idle", "quiet")
+    return slots_line(steps, f"{number} recessive; a frame {'can begin' if last.ready else 'cannot begin yet'}", "quiet")

@@ -1,0 +1,155 @@
+"""Frames in a trace: slots that the model follows, gathered to frames, with attempts and replies of the model. This module is not proved."""
+import frapmast
+from .registers import CHANNEL_BITS, INTERRUPTS
+
+RAISED = dict(INTERRUPTS)
+MARK = dict(CHANNEL_BITS)
+START, IDENTIFIER, COMMAND, DATA, CHECK, END_OF_DATA, ACKNOWLEDGE, END_OF_FRAME = (
+    "start", "identifier", "command", "data", "check", "end of data", "acknowledge", "end of frame")
+PARTS = [START, IDENTIFIER, COMMAND, DATA, CHECK, END_OF_DATA, ACKNOWLEDGE, END_OF_FRAME]
+
+
+def end_of_data(levels):
+    """The slot in which the end of data begins: the first pair 00 where a bit and its opposite were due. None where there is none yet."""
+    return next((k for k in range(13, len(levels) - 1, 5) if levels[k] == levels[k + 1] == 0), None)
+
+
+def parts(levels):
+    """The part of the frame that each slot is in. Without an end of data, what follows the command is called data."""
+    names = [START] * 10 + [IDENTIFIER] * 15 + [COMMAND] * 5 + [DATA] * max(0, len(levels) - 30)
+    end = end_of_data(levels)
+    if end is not None:
+        names[max(30, end - 18):] = [CHECK] * (end - max(30, end - 18)) + [END_OF_DATA] * 2 + [ACKNOWLEDGE] * 2 + [END_OF_FRAME] * 8
+    return names[:len(levels)]
+
+
+class Content:
+    """What a row of slots says as a frame, as far as it goes: identifier, command, data, and whether the check is right."""
+
+    def __init__(self, library, levels):
+        end = end_of_data(levels)
+        whole = max(0, len(levels) - 10) // 5 if end is None else (end - 13) // 5
+        digits = ["%X" % int("".join(map(str, levels[k:k + 4])), 2) for k in range(10, 10 + 5 * whole, 5)]
+        body = "".join(digits[4:] if end is None else digits[4:max(4, whole - 3)])
+        self.identifier, self.command = "".join(digits[:3]), "".join(digits[3:4])
+        self.data = " ".join(body[k:k + 2] for k in range(0, len(body), 2))
+        self.right, self.whole = None, end is not None
+        if end is not None and whole >= 7 and whole % 2 and whole <= 67:
+            due = frapmast.encode(library, int(self.identifier, 16), int(self.command, 16), bytes.fromhex(body), False)
+            self.right = bytes(levels[30:end]) == due[30:end]
+
+    def words(self):
+        head = " ".join(filter(None, [self.identifier, self.command, self.data]))
+        return head if self.whole else f"{head} ..".strip()
+
+
+class Attempt:
+    """An attempt of the model, or an immediate reply: where it began, its channel, and how it ended."""
+
+    def __init__(self, first, channel, retries=None):
+        self.first, self.channel, self.retries = first, channel, retries
+        self.end = self.outcome = None  # sent, lost, failed
+        self.answered = False
+
+    def under_way(self):
+        return self.end is None
+
+    def close(self, index, outcome):
+        self.end, self.outcome = index, outcome
+
+
+class Frame:
+    """A frame that the model follows: from the slot in which RXG rises to the one in which it falls."""
+
+    def __init__(self, library):
+        self.library, self.steps = library, []
+        self.attempt = self.reply = None
+        self.ended = None  # good, fault, dropped
+        self.decoded = None  # the number that the proved decoder gives for its slots
+        self.content = None
+
+    def levels(self):
+        return [step.sampled for step in self.steps]
+
+    def add(self, step):
+        index = len(self.steps)
+        self.steps.append(step)
+        if step.begins:
+            self.attempt = Attempt(index, step.before.sending & 15, step.before.sending >> 4)
+        if step.replier is not None:
+            self.reply = Attempt(index, step.replier)
+        if self.attempt and self.attempt.under_way():
+            self.judge_attempt(step, index)
+        elif self.reply and self.reply.under_way():
+            self.judge_reply(step, index)
+        if not step.after.frame():
+            self.end(step)
+
+    def judge_attempt(self, step, index):
+        if step.attempt:
+            self.attempt.answered |= index == 28 and step.driven > step.sampled
+        elif step.goes_on:
+            self.attempt.close(index, "lost")
+        else:
+            self.attempt.close(index, "sent" if step.raised & RAISED["TOK"] else "failed")
+
+    def judge_reply(self, step, index):
+        if not step.goes_on:
+            self.reply.close(index, "sent" if step.raised & RAISED["TOK"] else "failed")
+        elif step.driven > step.sampled and parts(self.levels())[index] != ACKNOWLEDGE:
+            self.reply.close(index, "lost")
+
+    def end(self, step):
+        """Where the model goes no further: the frame has ended, it is faulty, or a waiting idle drops it."""
+        try:
+            frapmast.decode(self.library, bytes(self.levels()))
+            self.decoded = 0
+        except frapmast.Refused as why:
+            self.decoded = why.number
+        self.ended = "dropped" if step.goes_on else "fault" if self.decoded else "good"
+        self.content = Content(self.library, self.levels())
+
+    def own(self):
+        """The model sent it, or its reply, and did not lose it."""
+        return any(part is not None and part.outcome in ("sent", "failed") and not part.answered for part in (self.attempt, self.reply))
+
+    def taker(self):
+        """The channel that stores it, or None."""
+        last = self.steps[-1]
+        if not last.raised & (RAISED["ROK"] | RAISED["RNOK"]):
+            return None
+        return next(channel for channel, bits in last.marks.items() if bits & MARK["CHRX"])
+
+
+class Group:
+    """Events that make one line: a host access, a mark or a refused slot by itself; slots of a frame; slots without one."""
+
+    def __init__(self, step, frame=None):
+        self.steps, self.frame = [step], frame
+
+    def takes(self, step, frame):
+        return step.is_slot() and self.steps[-1].is_slot() and self.frame is frame and step.before.mode == self.steps[0].before.mode
+
+    def first(self):
+        return self.steps[0].number
+
+    def last(self):
+        return self.steps[-1].number
+
+
+def gathered(library, trace):
+    """The groups of a trace, in the order of the events."""
+    groups, frame = [], None
+    for step in trace.steps:
+        if step.is_slot() and frame is None and (step.after.frame() or step.begins):
+            frame = Frame(library)
+        here = frame if step.is_slot() else None
+        if groups and groups[-1].takes(step, here):
+            groups[-1].steps.append(step)
+        else:
+            groups.append(Group(step, here))
+        if here is not None:
+            here.add(step)
+        if frame is not None and not step.after.frame():
+            frame = None
+    return groups
