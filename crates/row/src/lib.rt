@@ -1,14 +1,18 @@
 // The state but for the memory map as a lent row of bytes: where each number stands, the state that a row says, and the row of a state (docs/STATE.md).
 ghost use mathlib.Core.Path.{_≡_};
-ghost use Prim.Native.Nat.{_+_, _%_, _≤_, _<_};
+ghost use Prim.Native.Nat.{_+_, _-_, _%_, _≤_, _<_};
+ghost use Rattle.diagnosis.specs.Control as control_rule;
 ghost use Rattle.diagnosis.specs.Rules as diagnosis_rule;
 ghost use Rattle.rules.specs.Definitions.Setters as setter;
 ghost use Rattle.rules.specs.Definitions.Reception as reception_rule;
+ghost use Rattle.rules.specs.Definitions.Registers as register_rule;
 ghost use Rattle.rules.specs.Definitions.State as state_rule;
 ghost use Rattle.rules.specs.Definitions.Answers as answers;
 ghost use Rattle.row.specs.Row as rule;
 ghost use Rattle.row.specs.Bytes as bytes;
-ghost use lib.ListN.{length, set};
+ghost use Rattle.row.specs.Places as place;
+ghost use lib.Dec.{leb};
+ghost use lib.ListN.{length, set, getD};
 ghost use lib.Seq.{sets};
 use diagnosis::Condition;
 use diagnosis::Diagnosis;
@@ -804,11 +808,17 @@ pub fn put_core(s: &mut [u8; ROW], k: Core)
 
 // ---- number 6
 
+// The slots of the period, by the divider that 0x02 holds.
+fn period_in_range(m: &[u8; 256], s: &[u8; ROW]) -> bool
+    ensures { λ r. ⌜ r ≡ leb (rule.wordAt (rule.byteAt (now (s .entry))) place.period) (control_rule.divider (getD (now (m .entry)) register_rule.diagnosisControl 0) - 1) ⌝ }
+{
+    word(s, At::PERIOD) <= Map::divider(m[Map::DIAGNOSIS_CONTROL]) - 1
+}
+
 // A row a line, in the order of `ranges`.
 pub fn in_range(m: &[u8; 256], s: &[u8; ROW]) -> bool
     ensures { λ r. ⌜ r ≡ state_rule.inRange (answers.controller (now (m .entry)) (rule.coreOf (now (s .entry)))) ⌝ }
 {
-    let divider = Map::divider(m[Map::DIAGNOSIS_CONTROL]);
     (s[At::SENDING] <= 15)
         & (s[At::SENDING + 1] <= 13)
         & (s[At::MESSAGE] <= 15)
@@ -831,7 +841,7 @@ pub fn in_range(m: &[u8; 256], s: &[u8; ROW]) -> bool
         & (s[At::REPLY_DATA] <= line::LONGEST)
         & (s[At::LEVELS] <= 7)
         & (word(s, At::DOMINANT) <= 8)
-        & (word(s, At::PERIOD) <= divider - 1)
+        & period_in_range(m, s)
         & (word(s, At::RXD1) <= 4)
         & (word(s, At::RXD2) <= 4)
         & (word(s, At::CONNECTED) <= 4)

@@ -1,12 +1,11 @@
 use borrow.Author.Needs.{needs}
 use native.Mathlib.Omega.{arith}
-use Prim.Native.Nat.{ℕ, _-_}
-use mathlib.Core.Bool.{true}
+use Prim.Native.Nat.{ℕ}
+use mathlib.Core.Bool.{true, _&&_}
 use mathlib.Core.List.{[], _∷_}
 use mathlib.Core.Path.{_∙_}
 use Rattle.line.specs.Frame.{size}
 use Rattle.rules.specs.Definitions.State.{ranges, inRange}
-use Rattle.registers.proofs.Dividers.{one-slot}
 use Rattle.ranges.proofs.Rows.{joined, joined-within}
 use Rattle.row.specs.Row.{byteAt, coreBy, coreOf}
 use Rattle.row.proofs.in_range.Statement.{statement}
@@ -15,9 +14,10 @@ use Rattle.row.proofs.in_range.Tie as tie
 returns : tie.Need-returns
 unfolding inRange ranges size coreOf coreBy
 returns c =
-    let b : ℕ → ℕ = byteAt (c .before .before .before .before .before .before .before .before .before .before .before .before .before .before .before .before .before .before .before .before .before .before .before .before .before .before .before .before .args .s .now) in
+    let b : ℕ → ℕ = byteAt (c .before .before .before .before .before .before .before .before .before .before .before .before .before .before .before .before .before .before .before .before .before .before .before .before .before .before .args .s .now) in
     (λ i.
-    joined true
+    joined
+    (joined true
     ((b 0, 15)
     ∷ (b 1, 13)
     ∷ (b 2, 15)
@@ -40,52 +40,50 @@ returns c =
     ∷ (b 15, 30)
     ∷ (b 16, 7)
     ∷ (c .before .before .before .before .word2 .ensures i, 8)
-    ∷ (c .before .before .before .word3 .ensures i, c .before .before .before .before .before .before .before .before .before .before .before .before .before .before .before .before .before .before .before .before .before .before .before .before .before .before .divider .ensures i - 1)
-    ∷ (c .before .before .word4 .ensures i, 4)
-    ∷ (c .before .word5 .ensures i, 4)
-    ∷ (c .word6 .ensures i, 4)
+    ∷ [])
+    && c .before .before .before .period-in-range .ensures i)
+    ((c .before .before .word3 .ensures i, 4)
+    ∷ (c .before .word4 .ensures i, 4)
+    ∷ (c .word5 .ensures i, 4)
     ∷ []))
-    ∙ joined-within true (ranges _ (coreOf (c .before .before .before .before .before .before .before .before .before .before .before .before .before .before .before .before .before .before .before .before .before .before .before .before .before .before .before .before .args .s .now)))
+    ∙ joined-within true (ranges _ (coreOf (c .before .before .before .before .before .before .before .before .before .before .before .before .before .before .before .before .before .before .before .before .before .before .before .before .before .before .args .s .now)))
 
 pub in-range-spec : {M : Type 1} → statement M
 in-range-spec =
     tie.close (tie.spec
     (λ c. search needs)
+    (λ c. search needs)
+    (λ c. search needs)
+    (λ c. search needs)
+    (λ c. search needs)
+    (λ c. search needs)
+    (λ c. search needs)
+    (λ c. search needs)
+    (λ c. search needs)
+    (λ c. search needs)
+    (λ c. search needs)
+    (λ c. search needs)
+    (λ c. search needs)
+    (λ c. search needs)
+    (λ c. search needs)
+    (λ c. search needs)
+    (λ c. search needs)
+    (λ c κs. omega arith)
+    (λ c. search needs)
+    (λ c. search needs)
+    (λ c. search needs)
+    (λ c. search needs)
+    (λ c κs. omega arith)
+    (λ c. search needs)
+    (λ c κs. omega arith)
+    (λ c. search needs)
+    (λ c. search needs)
+    (λ c. search needs)
+    (λ c. search needs)
+    (λ c. search needs)
+    (λ c. search needs)
+    (λ c κs. omega arith)
     (λ c κs. tt)
-    (λ c. search needs)
-    (λ c. search needs)
-    (λ c. search needs)
-    (λ c. search needs)
-    (λ c. search needs)
-    (λ c. search needs)
-    (λ c. search needs)
-    (λ c. search needs)
-    (λ c. search needs)
-    (λ c. search needs)
-    (λ c. search needs)
-    (λ c. search needs)
-    (λ c. search needs)
-    (λ c. search needs)
-    (λ c. search needs)
-    (λ c. search needs)
-    (λ c. search needs)
-    (λ c κs. omega arith)
-    (λ c. search needs)
-    (λ c. search needs)
-    (λ c. search needs)
-    (λ c. search needs)
-    (λ c κs. omega arith)
-    (λ c. search needs)
-    (λ c κs. omega arith)
-    (λ c. search needs)
-    (λ c. search needs)
-    (λ c. search needs)
-    (λ c. search needs)
-    (λ c. search needs)
-    (λ c. search needs)
-    (λ c κs. omega arith)
-    (λ c κs. omega arith)
-    (λ c. one-slot _ (c .before .before .before .before .before .before .before .before .before .before .before .before .before .before .before .before .before .before .before .before .before .before .before .divider .ensures))
     (λ c κs. omega arith)
     (λ c κs. omega arith)
     (λ c κs. omega arith)
