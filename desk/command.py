@@ -4,6 +4,7 @@ import os
 import re
 import subprocess
 import sys
+import traceback
 
 import frapmast
 
@@ -11,16 +12,18 @@ from . import TOP
 from .differences import report
 from .explain import explained
 from .sessions import Trouble, content
-from .text import Wrong, session_of, text_of
+from .text import WrongText, session_of, text_of
 from .vcd import vcd_of
 
 GOOD, FOUND, TROUBLE = 0, 1, 2
+MOST_TEXT = 16  # MiB
 COLOURS = {"error": "\033[31m", "frame": "\033[36m", "quiet": "\033[2m"}
 PLAIN = "\033[0m"
-EPILOG = """Exit status: 0 done, nothing to tell; 1 done, and there is something to tell: listings that differ, a session that ends in `bad`, with
-`explain --only errors` a line; 2 nothing could be done, and a message says why.
+EPILOG = """Exit status: 0 done; 1 done, and something is not as it should be: listings that differ, a session that ends in `bad`, a line of
+`explain --only errors`; 2 nothing could be done, and a message says why.
 docs/TOOLS.md has examples."""
-UNPROVED = "This tool is not proved. It shows nothing that the proved player's listing does not rest on: docs/TOOLS.md says how."
+UNPROVED = "This tool is not proved."
+RESTS = f"{UNPROVED} It shows nothing that the proved player's listing does not rest on: docs/TOOLS.md says how."
 
 
 def library():
@@ -32,6 +35,10 @@ def library():
 
 def written(path, data):
     """Writes to a file, or to standard output without one."""
+    if path == "-":
+        path = None
+    if path is None and sys.stdout is None:
+        raise Trouble("standard output is closed")
     try:
         if path is None:
             sys.stdout.buffer.write(data)
@@ -42,7 +49,13 @@ def written(path, data):
     except BrokenPipeError:
         os.dup2(os.open(os.devnull, os.O_WRONLY), sys.stdout.fileno())
     except OSError as why:
-        raise Trouble(f"{path or 'standard output'}: {why.strerror}")
+        raise Trouble(f"{'standard output' if path is None else path}: {why.strerror}")
+
+
+def apart(source, output):
+    """An output that is the input would destroy it."""
+    if output is not None and os.path.exists(source) and os.path.exists(output) and os.path.samefile(source, output):
+        raise Trouble(f"{output}: it is the input")
 
 
 def print_lines(path, lines):
@@ -52,18 +65,25 @@ def print_lines(path, lines):
 def explain(words):
     session = content(words.session)
     lines = explained(library(), session)
-    first, last = words.events or (0, None)
-    kept = [line for line in lines if wanted(line, words.only, first, last, words.events)]
-    colour = sys.stdout.isatty() and "NO_COLOR" not in os.environ
+    count = max((line.last + 1 for line in lines if line.last is not None), default=0)
+    if words.events and words.events[0] >= count:
+        raise Trouble(f"--events: the session has {count} events, from 0 on")
+    kept = [line for line in lines if wanted(line, words.only, words.events)]
+    colour = sys.stdout is not None and sys.stdout.isatty() and "NO_COLOR" not in os.environ
     print_lines(None, [coloured(line) if colour else line.words for line in kept])
-    found = kept if words.only == ["errors"] else [line for line in lines if line.words.startswith("bad ")]
-    return FOUND if found else GOOD
+    asked = "errors" in (words.only or [])
+    return FOUND if any("error" in line.kinds and asked or is_bad(line) for line in kept) else GOOD
 
 
-def wanted(line, only, first, last, chosen):
-    if chosen and (line.first is None or line.last < first or line.first > last):
-        return False
-    return not only or any(f"{kind}s" in only for kind in line.kinds)
+def is_bad(line):
+    return line.first is None and "error" in line.kinds
+
+
+def wanted(line, only, events):
+    """The lines asked for. That a session is broken is always told."""
+    if events and line.first is None or events and (line.last < events[0] or line.first > events[1]):
+        return is_bad(line)
+    return not only or is_bad(line) or any(f"{kind}s" in only for kind in line.kinds)
 
 
 def coloured(line):
@@ -72,6 +92,7 @@ def coloured(line):
 
 
 def text(words):
+    apart(words.session, words.output)
     session = content(words.session)
     lines, good = text_of(library(), session)
     print_lines(words.output, lines)
@@ -79,18 +100,20 @@ def text(words):
 
 
 def session(words):
-    data = content(words.text)
-    if words.output is None and sys.stdout.isatty():
+    apart(words.text, words.output)
+    data = content(words.text, MOST_TEXT)
+    if words.output is None and sys.stdout is not None and sys.stdout.isatty():
         raise Trouble("a session is not text; name a file with -o, or send standard output to one")
     try:
         made = session_of(library(), data)
-    except Wrong as why:
+    except WrongText as why:
         raise Trouble(f"{words.text}: {why}")
     written(words.output, made)
     return GOOD
 
 
 def vcd(words):
+    apart(words.session, words.output)
     session = content(words.session)
     lines, good = vcd_of(library(), session, 1000 * words.slot, words.gtkwave)
     print_lines(words.output, lines)
@@ -98,6 +121,8 @@ def vcd(words):
 
 
 def diff(words):
+    if words.old == words.new == "-":
+        raise Trouble("standard input can be one listing, not both")
     lines = report(content(words.old), content(words.new))
     print_lines(None, lines)
     return FOUND if lines else GOOD
@@ -107,7 +132,10 @@ def events_range(word):
     found = re.fullmatch(r"(\d+)(?:-(\d+))?", word)
     if not found:
         raise argparse.ArgumentTypeError(f"{word}: events are a number, or two as in 21-191")
-    return int(found[1]), int(found[2] or found[1])
+    first, last = int(found[1][:9]), int((found[2] or found[1])[:9])
+    if last < first:
+        raise argparse.ArgumentTypeError(f"{word}: the first event comes before the last")
+    return first, last
 
 
 def slot_length(word):
@@ -123,7 +151,7 @@ def parser():
     output = {"metavar": "FILE", "help": "where to write; standard output without it"}
 
     def tool(name, words):
-        return every.add_parser(name, help=words, description=f"Writes {words}. {UNPROVED}")
+        return every.add_parser(name, help=words, description=f"Writes {words}. {UNPROVED if name in ('session', 'diff') else RESTS}")
 
     one = tool("explain", "the listing of a session, with what each line means")
     one.add_argument("session", metavar="SESSION", help="a session, or - for standard input")
@@ -159,8 +187,27 @@ def main(words):
     try:
         chosen = parser().parse_args(words)
         return chosen.call(chosen)
-    except Trouble as why:
+    except (Trouble, OSError) as why:
         print(f"frapmast: {why}", file=sys.stderr)
     except KeyboardInterrupt:
         print("frapmast: interrupted", file=sys.stderr)
     return TROUBLE
+
+
+def run(words):
+    """The exit status; also where argparse ends the program, and where its help cannot be written."""
+    try:
+        status = main(words)
+    except SystemExit as end:
+        status = end.code
+    except Exception:  # a fault of the tool: not a status that says something of the session
+        traceback.print_exc()
+        status = TROUBLE
+    try:
+        if sys.stdout is not None:
+            sys.stdout.flush()
+    except OSError as why:
+        print(f"frapmast: standard output: {why.strerror}", file=sys.stderr)
+        os.dup2(os.open(os.devnull, os.O_WRONLY), sys.stdout.fileno())
+        status = TROUBLE
+    return status

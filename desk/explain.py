@@ -1,13 +1,14 @@
 """The listing of a session with what each line means. This is not proved. It shows what the proved player and the calls of libfrapmast.so answer."""
-import frapmast
-
 from .frame_words import frame_fails, frame_words
-from .frames import gathered, parts
-from .registers import COMMAND, LINE, NAMES, REFUSED, TRANSMIT, byte
+from .frames import KINDS, MARK as MARKS
+from .frames import RAISED, frame_at, gathered
+from .registers import COMMAND, COMMANDS, LINE, NAMES, REFUSED, TRANSMIT, byte
 from .sessions import MARK, READ, WRITE, Played, broken
-from .trace import SA, SB, SC, Trace
+from .trace import SA, SB, SC, STATUS_BYTES, Trace
 
 CONDITION = {0: "no fault on a wire", SA: "Sa, fault on DATA (RxD1)", SB: "Sb, fault on DATA-bar (RxD2)", SA | SB: "Sa Sb, major error"}
+INPUTS = ["RxD0", "RxD1", "RxD2"]
+BIT = dict(COMMANDS)
 PAUSE = 8  # recessive slots that end a stretch in which no frame is found
 ROW = 40  # levels that a line shows
 
@@ -23,8 +24,10 @@ def explained(library, session):
     """The lines of a session. The first and the last one are about no event."""
     played = Played(library, session)
     lines = [Line(None, None, played.lines[0])] if played.count is not None else []
+    rest = False  # the line is not free after a frame that failed
     for group in gathered(library, Trace(library, played)):
-        lines += slot_lines(library, group) if group.steps[0].is_slot() else [host_line(group.steps[0])]
+        lines += slot_lines(library, group, rest) if group.steps[0].is_slot() else [host_line(group.steps[0])]
+        rest = frame_fails(group.frame) if group.frame is not None else rest and not group.steps[-1].ready
     if played.bad:
         return lines + [Line(None, None, f"{played.last}: {broken(played)}", "error")]
     return lines + [Line(None, None, f"{played.last}: every event was read")]
@@ -44,7 +47,7 @@ def host_line(step):
     meaning = byte(step.after.map, numbers[0], numbers[1] if kind == WRITE else step.answer) if kind in (READ, WRITE) else "pin reset"
     more = changes(step.before, step.after)
     kinds = ["error"] * any(word.startswith(("Sa", "Sb")) for word in more)
-    return Line(step.number, step.number, "; ".join([f"{words}: {meaning}"] + ended(step) + more), *kinds)
+    return Line(step.number, step.number, "; ".join([f"{words}: {meaning}"] + ended(step) + waiting(step) + more), *kinds)
 
 
 def refusal(step):
@@ -65,6 +68,23 @@ def ended(step):
     return words
 
 
+def waiting(step):
+    """What a write asked of a service that goes on, and CHTx that an abort sets at once."""
+    if step.event.kind != WRITE or not step.before.service():
+        return []
+    (address, value), words = step.event.numbers, []
+    own = address == STATUS_BYTES[step.before.sending & 15] and value & MARKS["CHER"]
+    if own and not step.after.service():
+        words.append("abort: CHTx is set")
+    if not step.after.service():
+        return words
+    if own or address == COMMAND and value & BIT["REAR"]:
+        words.append("the service is to end after the attempt")
+    if address == COMMAND and value & BIT["IDLE"]:
+        words.append("IDLE waits for the service to end")
+    return words
+
+
 def changes(before, after):
     """Changes of mode, diagnosis and interrupt line."""
     words, differ = [], before.line ^ after.line
@@ -82,11 +102,11 @@ def changes(before, after):
 # ---- slots
 
 
-def slot_lines(library, group):
+def slot_lines(library, group, rest):
     frame = group.frame
     if frame is None:
-        return [loose_line(steps, found) for steps, found in stretches(library, group.steps)]
-    if not frame.ended or frame.steps[-1] is not group.steps[-1]:
+        return [loose_line(steps, found, rest) for steps, found in stretches(library, group.steps)]
+    if frame.steps[-1] is not group.steps[-1]:
         return [slots_line(group.steps, f"frame under way: {covered(frame, group.steps)}", "frame")]
     begun = f"from {frame.steps[0].number} on: " if frame.steps[0] is not group.steps[0] else ""
     kinds = ["frame"] + ["error"] * frame_fails(frame)
@@ -106,10 +126,12 @@ def slots_line(steps, words, *kinds):
 
 def slot_changes(step):
     before, after, words = step.before, step.after, []
-    if after.service() and (not before.service() or (before.sending ^ after.sending) & 15):
-        words.append(f"channel {after.sending & 15} is chosen to send")
-    if before.service() and not after.service() and not step.raised & 0x18:
+    if step.moved:
+        words.append(f"{INPUTS[step.connected]} is sampled")
+    if step.ends and not step.raised & (RAISED["TE"] | RAISED["TOK"]):
         words.append(f"the service of channel {before.sending & 15} ends")
+    if after.service() and (not before.service() or step.ends):
+        words.append(f"channel {after.sending & 15} is chosen to send")
     words += changes(before, after)
     next_level = step.answer ^ after.map[LINE] >> 1 & 1
     if next_level == 0 and not after.frame():
@@ -120,7 +142,7 @@ def slot_changes(step):
 def covered(frame, steps):
     """The parts of a frame that some of its slots are in, as far as they are known."""
     first = frame.steps.index(steps[0])
-    names = parts(frame.levels())[first:first + len(steps)]
+    names = frame.parts()[first:first + len(steps)]
     return names[0] if names[0] == names[-1] else f"{names[0]} to {names[-1]}"
 
 
@@ -138,16 +160,14 @@ def stretches(library, steps):
 
 def dominant_stretch(library, levels, at):
     """Where a stretch that begins with a dominant slot ends, and its frame, if the proved decoder takes it for one."""
-    for behind in range(at + 60, min(at + 360, len(levels)) + 1, 10):
-        try:
-            return behind, frapmast.decode(library, bytes(levels[at:behind]))
-        except frapmast.Refused:
-            pass
+    frame, length = frame_at(library, levels[at:])
+    if frame is not None:
+        return at + length, frame
     return next((k for k in range(at, len(levels)) if levels[k:k + PAUSE] == [1] * PAUSE), len(levels)), None
 
 
-def loose_line(steps, frame):
-    """Slots without a frame under way."""
+def loose_line(steps, frame, rest):
+    """Slots without a frame under way; rest: after a frame that failed."""
     mode, last = steps[0].before.mode, steps[-1]
     number = f"{len(steps)} slots" if len(steps) > 1 else "a slot"
     if mode == "asleep":
@@ -155,11 +175,11 @@ def loose_line(steps, frame):
     why = "the controller is idle" if mode == "idle" else "the line was not free"
     if frame is not None:
         identifier, command, data, acknowledge = frame
-        words = " ".join(["frame", f"{identifier:03X}", f"{command:X}"] + [f"{n:02X}" for n in data])
+        words = " ".join([KINDS[command & 3], f"{identifier:03X}", f"{command:X}"] + [f"{n:02X}" for n in data])
         return slots_line(steps, f"{words}, {'' if acknowledge else 'not '}acknowledged; not followed: {why}", "frame", "error")
     if steps[0].sampled == 0:
         row = "".join(str(step.sampled) for step in steps)
-        return slots_line(steps, f"{row[:ROW]}{'..' * (len(row) > ROW)}; not followed: {why}", "error")
+        return slots_line(steps, f"{row[:ROW]}{'..' * (len(row) > ROW)}; not followed: {why}", "quiet" if rest else "error")
     if mode == "idle":
         return slots_line(steps, f"{number} recessive, idle", "quiet")
     return slots_line(steps, f"{number} recessive; a frame {'can begin' if last.ready else 'cannot begin yet'}", "quiet")

@@ -10,6 +10,7 @@ NAMES = {LINE: "line control", TRANSMIT: "transmit control", DIAGNOSIS: "diagnos
 INTERRUPTS = [("RST", 0x80), ("TE", 0x10), ("TOK", 0x08), ("RE", 0x04), ("ROK", 0x02), ("RNOK", 0x01)]
 COMMANDS = [("GRES", 0x80), ("SLEEP", 0x40), ("IDLE", 0x20), ("ACTI", 0x10), ("REAR", 0x08), ("MSDC", 0x01)]
 LINE_BITS = [("SPG", 0x40), ("IDG", 0x20), ("SC", 0x10), ("SB", 0x08), ("SA", 0x04), ("TXG", 0x02), ("RXG", 0x01)]
+LINE_CONTROL = [("PC", 0x08), ("IVTX", 0x02), ("IVRX", 0x01)]
 ERRORS = [("BOC", 0x40), ("BOV", 0x20), ("FCSE", 0x08), ("ACKE", 0x04), ("CV", 0x02), ("FV", 0x01)]
 TAG_BITS = [("EXT", 0x08), ("RAK", 0x04), ("RNW", 0x02), ("RTR", 0x01)]
 CHANNEL_BITS = [("CHER", 0x04), ("CHTX", 0x02), ("CHRX", 0x01)]
@@ -23,8 +24,10 @@ FIRST_CHANNEL, FIRST_PLACE = 0x10, 0x80
 
 
 def bits(names, value):
-    """The names of the bits that are set."""
-    return " ".join(SHOWN.get(name, name) for name, mask in names if value & mask)
+    """The names of the bits that are set; a bit without a name has its number."""
+    named = [SHOWN.get(name, name) for name, mask in names if value & mask]
+    known = sum(mask for _, mask in names)
+    return " ".join(named + [f"bit {k}" for k in range(7, -1, -1) if value & ~known & 1 << k])
 
 
 def error(code):
@@ -35,7 +38,7 @@ def error(code):
 def control(address, value):
     """The byte of a control register in words."""
     words = {
-        LINE: lambda: f"CD {value >> 4}" + (" PC" if value & 8 else "") + (" IVTX" if value & 2 else "") + (" IVRX" if value & 1 else ""),
+        LINE: lambda: " ".join(filter(None, [f"CD {value >> 4}", bits(LINE_CONTROL, value & 15)])),
         TRANSMIT: lambda: f"MR {value >> 4}, MT {value & 1}",
         DIAGNOSIS: lambda: f"SDC {value >> 4}, {INPUTS[value >> 2 & 3]}" + (", ETIP" if value & 2 else "") + (", ESDC" if value & 1 else ""),
         SENDING: lambda: f"channel {value & 15}, retries {value >> 4}",
@@ -53,7 +56,7 @@ class Channel:
         self.number, self.row = channel, map_[FIRST_CHANNEL + 8 * channel:][:8]
         self.tag = self.row[0] << 4 | self.row[1] >> 4
         self.mask = self.row[6] << 4 | self.row[7] >> 4
-        self.command, self.pointer, self.length = self.row[1] & 15, self.row[2] & 0x7F, self.row[3] >> 3
+        self.pointer, self.length = self.row[2] & 0x7F, self.row[3] >> 3
         self.status = self.row[1] >> 1 & 1, self.row[1] & 1, self.row[3] >> 1 & 1, self.row[3] & 1
 
     def type(self):
@@ -88,25 +91,26 @@ def channel_byte(map_, address):
     channel = Channel(map_, (address - FIRST_CHANNEL) // 8)
     place, value = (address - FIRST_CHANNEL) % 8, map_[address]
     if place < 2:
-        words = f"tag {channel.tag:03X}" + (f", {bits(TAG_BITS, value) or 'no command bit'}" if place else "")
+        words = f"tag {channel.tag:03X}" + (f", {bits(TAG_BITS, value & 15) or 'no command bit'}" if place else "")
     elif place == 2:
         words = f"pointer {channel.pointer:02X}, mailbox {FIRST_PLACE + channel.pointer:02X}" + (", DRAK" if value & 0x80 else "")
     elif place == 3:
-        words = ", ".join(filter(None, [f"M_L {channel.length}", bits(CHANNEL_BITS, value)])) + f"; {channel.role(map_)}"
+        words = ", ".join(filter(None, [f"M_L {channel.length}", bits(CHANNEL_BITS, value & 7)])) + f"; {channel.role(map_)}"
     else:
         words = f"mask {channel.mask:03X}" if place > 5 else "no register"
     return f"channel {channel.number}, {words}"
 
 
 def mailbox_byte(map_, address):
-    """A byte of the mailbox in words: the channels in whose area it is."""
+    """A byte of the mailbox in words: the channels in whose area it is. With CHRx the first one is the status byte of a message."""
     found = []
     for number in range(14):
         channel = Channel(map_, number)
         area = channel.area(map_) if channel.length else []
         if address in area:
             k = area.index(address)
-            found.append(f"channel {number}, " + (status_byte(map_[address]) if k == 0 else f"byte {k}"))
+            stored = k == 0 and channel.status[3]
+            found.append(f"channel {number}, " + (status_byte(map_[address]) if stored else f"byte {k}" if k else "first byte"))
     return "mailbox" + (": " + "; ".join(found) if found else ", of no channel")
 
 
@@ -115,7 +119,8 @@ def status_byte(value):
 
 
 def byte(map_, address, value):
-    """What is written to an address, or read from it, in words. From 0x10 on the map has the value."""
+    """What is written to an address, or read from it, in words."""
     if address < FIRST_CHANNEL:
         return control(address, value)
+    map_ = map_[:address] + bytes([value]) + map_[address + 1:]
     return channel_byte(map_, address) if address < FIRST_PLACE else mailbox_byte(map_, address)

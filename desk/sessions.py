@@ -10,7 +10,7 @@ from bench_session import MARK, READ, RESET, SLOT, WRITE, number
 
 NAMES = {RESET: "reset", WRITE: "write", READ: "read", SLOT: "slot", MARK: "mark"}
 OPERANDS = {RESET: 0, WRITE: 2, READ: 1, SLOT: 1, MARK: 1}
-PART = {30: "a number is cut", 31: "a number is not in its shortest form", 32: "a number is above 65,535", 33: "the version is not 1",
+FAULTS = {30: "a number is cut", 31: "a number is not in its shortest form", 32: "a number is above 65,535", 33: "the version is not 1",
         34: "the count is above 4,096", 35: "the kind of an event is above 4", 36: "bytes are left over after the last event"}
 MOST_READ = 65536  # bytes that the player reads
 BAD = re.compile(r"bad (\d+) at (\d+) after (\d+)")
@@ -80,19 +80,23 @@ def broken(played):
         words = f"at offset {place}: {there}" + (", and the file ends" if fault == 30 else "")
     if played.count is not None and fault != 36:
         words += f"; in event {len(played.events)}"
-    return f"{PART[fault]}; {words}"
+    if fault == 33 and re.fullmatch(rb"[\t\r\n -~]+", played.session[:64]):
+        words += "; is it a text? `./frapmast session` makes a session of one"
+    return f"{FAULTS[fault]}; {words}"
 
 
-def content(path):
-    """The bytes of a file, or of standard input for `-`."""
+def content(path, most=1):
+    """The bytes of a file, or of standard input for `-`; most: the largest size, in MiB."""
+    if path == "-" and sys.stdin is None:
+        raise Trouble("standard input is closed")
     try:
         if path == "-":
-            data = sys.stdin.buffer.read(MOST_READ * 16 + 1)
+            data = sys.stdin.buffer.read((most << 20) + 1)
         else:
             with open(path, "rb") as file:
-                data = file.read(MOST_READ * 16 + 1)
+                data = file.read((most << 20) + 1)
     except OSError as why:
         raise Trouble(f"{path}: {why.strerror}")
-    if len(data) > MOST_READ * 16:
-        raise Trouble(f"{path}: it is longer than 1 MiB")
+    if len(data) > most << 20:
+        raise Trouble(f"{path}: it is longer than {most} MiB")
     return data

@@ -5,12 +5,14 @@ import re
 
 import frapmast
 
+from .frames import frame_at
 from .sessions import MARK, READ, RESET, SLOT, WRITE, Event, Played, Trouble, broken, number
 
 MOST_EVENTS, MOST_NUMBER = 4096, 65535
 INPUTS = {"RxD0": 1, "RxD1": 2, "RxD2": 4}
 ALL = 7
 ROW, READS, BYTES, NUMBERS = 60, 16, 32, 20  # of a line, at most
+BYTE_ORDER_MARK = b"\xEF\xBB\xBF"
 SHORT = 4  # slots of one row that are not worth a line of their own
 
 
@@ -88,9 +90,9 @@ def stretch(library, levels, at):
         return at + 1, None
     inputs = ALL - levels[at]
     row = [int(n == ALL) for n in levels[at:run(levels, at, {ALL, levels[at]})]]
-    frame = found_frame(library, row)
+    frame, length = frame_at(library, row)
     if frame:
-        return at + frame[0], [frame[1] + on(inputs)]
+        return at + length, [frame_line(*frame) + on(inputs)]
     pause = next((k for k in range(len(row)) if row[k:k + 8] == [1] * 8), len(row))
     if pause < SHORT:
         return at + pause, None
@@ -102,16 +104,8 @@ def run(levels, at, allowed):
     return next((k for k in range(at, len(levels)) if levels[k] not in allowed), len(levels))
 
 
-def found_frame(library, row):
-    """The frame that a row of levels begins with, if the proved decoder takes it for one: its slots and its line."""
-    for length in range(60, min(360, len(row)) + 1, 10):
-        try:
-            identifier, command, data, acknowledge = frapmast.decode(library, bytes(row[:length]))
-        except frapmast.Refused:
-            continue
-        words = ["frame", f"{identifier:03X}", f"{command:X}"] + [f"{n:02X}" for n in data] + ["ack" if acknowledge else "noack"]
-        return length, " ".join(words)
-    return None
+def frame_line(identifier, command, data, acknowledge):
+    return " ".join(["frame", f"{identifier:03X}", f"{command:X}"] + [f"{n:02X}" for n in data] + ["ack" if acknowledge else "noack"])
 
 
 def on(inputs):
@@ -121,8 +115,8 @@ def on(inputs):
 # ---- text to a session
 
 
-class Wrong(Trouble):
-    """A fault of the text: its line and column, from 1."""
+class WrongText(Trouble):
+    """A fault of a text: its line and column, from 1."""
 
 
 class Word:
@@ -130,14 +124,14 @@ class Word:
         self.text, self.line, self.column = text, line, column
 
     def wrong(self, words):
-        return Wrong(f"line {self.line}, column {self.column}: {words}")
+        return WrongText(f"line {self.line}, column {self.column}: {words}")
 
     def value(self, base, most=MOST_NUMBER):
         kind = {16: "a hexadecimal number", 10: "a number"}[base]
         digits = {16: "[0-9A-Fa-f]+", 10: "[0-9]+"}[base]
         if not re.fullmatch(digits, self.text):
             raise self.wrong(f"`{self.text}`: {kind} is due")
-        if int(self.text, base) > most:
+        if len(self.text.lstrip("0")) > 6 or int(self.text, base) > most:
             raise self.wrong(f"`{self.text}`: the largest number here is " + (f"{most:X}" if base == 16 else f"{most:,}"))
         return int(self.text, base)
 
@@ -162,7 +156,7 @@ class Builder:
         calls = {"reset": self.reset, "write": self.write, "read": self.read, "slot": self.slot, "slots": self.slots, "frame": self.frame,
                  "quiet": self.quiet, "mark": self.mark, "events": self.events, "bytes": self.raw, "no": self.no_header}
         if first.text not in calls:
-            raise first.wrong(f"`{first.text}`: a line begins with one of " + ", ".join(calls))
+            raise first.wrong(f"`{first.text}`: a line begins with one of " + ", ".join(calls) + " header")
         calls[first.text](first, words)
         if self.stated is None and self.header and self.count > MOST_EVENTS:
             raise first.wrong(f"with this line there are {self.count:,} events; a session has at most {MOST_EVENTS:,}")
@@ -196,7 +190,7 @@ class Builder:
 
     def frame(self, first, words):
         words, inputs = inputs_of(words)
-        words, first_slot, last_slot = piece_of(words)
+        words, piece = piece_of(words)
         if len(words) < 2:
             raise behind(first, words).wrong("an identifier and a command are due")
         acknowledge = words[-1].text == "ack"
@@ -205,7 +199,12 @@ class Builder:
             raise data[frapmast.MOST_BYTES].wrong("a frame has at most 30 data bytes")
         content = bytes(word.value(16, 0xFF) for word in data)
         slots = frapmast.encode(self.library, words[0].value(16, 0xFFF), words[1].value(16, 0xF), content, acknowledge)
-        self.levels(slots[first_slot:last_slot], inputs)
+        if piece and piece[1].value(10) > len(slots):
+            raise piece[1].wrong(f"`{piece[1].text}`: this frame has {len(slots)} slots")
+        if piece:
+            place = piece[1].value(10)
+            slots = slots[:place] if piece[0].text == "first" else slots[place:]
+        self.levels(slots, inputs)
 
     def quiet(self, first, words):
         exactly(first, words, 1, "a number of recessive slots is due")
@@ -217,8 +216,8 @@ class Builder:
 
     def events(self, first, words):
         exactly(first, words, 1, "the count of the header is due")
-        if self.body or self.stated is not None:
-            raise first.wrong("`events` stands once, before all events")
+        if self.body or self.stated is not None or not self.header:
+            raise first.wrong("`events` stands once, before all events, and not with `no header`")
         self.stated = words[0].value(10)
 
     def raw(self, first, words):
@@ -230,8 +229,8 @@ class Builder:
     def no_header(self, first, words):
         if [word.text for word in words] != ["header"]:
             raise behind(first, []).wrong("`no header` is due")
-        if self.body or self.stated is not None:
-            raise first.wrong("`no header` stands before all else")
+        if self.body or self.stated is not None or not self.header:
+            raise first.wrong("`no header` stands once, before all else")
         self.header = False
 
 
@@ -268,21 +267,22 @@ def inputs_of(words):
 
 
 def piece_of(words):
-    """The words before `first K` or `from K`, and the slots that these keep: the first K, or those from slot K on. Slots count from 0."""
-    if len(words) < 2 or words[-2].text not in ("first", "from"):
-        return words, 0, frapmast.MOST_SLOTS
-    place = words[-1].value(10, frapmast.MOST_SLOTS)
-    return (words[:-2], 0, place) if words[-2].text == "first" else (words[:-2], place, frapmast.MOST_SLOTS)
+    """The words before `first K` or `from K`, and these two, if they are there. Slots count from 0."""
+    place = next((k for k, word in enumerate(words) if word.text in ("first", "from")), None)
+    if place is None:
+        return words, None
+    exactly(words[place], words[place + 1:], 1, "a number of slots is due")
+    return words[:place], words[place:]
 
 
 def session_of(library, data):
     """The session that a text says."""
     builder = Builder(library)
-    for line, row in enumerate(data.split(b"\n"), 1):
+    for line, row in enumerate(re.split(rb"\r\n|\n|\r", data.removeprefix(BYTE_ORDER_MARK)), 1):
         try:
-            text = row.decode("utf-8").rstrip("\r")
+            text = row.decode("utf-8")
         except UnicodeDecodeError as why:
-            raise Wrong(f"line {line}, column {why.start + 1}: it is not UTF-8 text")
+            raise WrongText(f"line {line}, column {why.start + 1}: it is not UTF-8 text")
         words = [Word(found[0], line, found.start() + 1) for found in re.finditer(r"\S+", text.split("#")[0])]
         if words:
             builder.line(words[0], words[1:])

@@ -1,10 +1,11 @@
 """A session event by event through the calls of libfrapmast.so, with what each event did. This module is not proved.
 
-It holds no rules of the controller. What an event did is read from the model, by reads that a host could make and by trials: a copy of the
-model gets a write or a slot, and the copy shows what comes of it. Each answer is compared with the line of the proved player's listing.
+What an event did is asked of the model, by reads that a host could make and by trials: a copy of the model gets a write or a slot, and the copy
+shows what comes of it. Each answer is compared with the line of the proved player's listing. Two rules are written here: the input that Ma, Mb, Sa
+and Sb select (`connected`), and that without a service nothing is driven before RTR (`settle`).
 """
 import frapmast
-from .registers import CLEAR, COMMAND, DIAGNOSIS, ENABLE, ERROR, LINE, LINE_STATUS, MESSAGE, SENDING, STATUS
+from .registers import CLEAR, COMMAND, DIAGNOSIS, ERROR, LINE, LINE_STATUS, SENDING, STATUS
 from .sessions import MARK, NAMES, READ, RESET, SLOT, WRITE, Trouble
 
 ACTI, REAR, MSDC = 0x10, 0x08, 0x01
@@ -24,10 +25,10 @@ class View:
             self.line = model.read(LINE_STATUS)
         except frapmast.Refused:
             self.mode, self.line = "asleep", last.line & ~(TXG | RXG | 0x20)
-            self.sending, self.message, self.error, self.status = last.sending, last.message, last.error, last.status
+            self.sending, self.error = last.sending, last.error
             return
         self.mode = "idle" if self.line & 0x20 else "active"
-        self.sending, self.message, self.error, self.status = (model.read(address) for address in (SENDING, MESSAGE, ERROR, STATUS))
+        self.sending, self.error = model.read(SENDING), model.read(ERROR)
 
     def frame(self):
         return bool(self.line & RXG)
@@ -44,6 +45,7 @@ class Step:
     goes_on    the frame goes on after it            places     the mailbox places that it writes
     begins     an attempt begins in it               attempt    an attempt goes on after it
     replier    the channel whose reply begins in it  connected  the input that is sampled
+    ends       a service ends in it                  moved      the input sampled is not that of the slot before
     ready      a dominant slot after it begins a frame
     earlier    the model before it, where a frame begins in it
     """
@@ -54,6 +56,7 @@ class Step:
         self.sampled, self.driven, self.connected = None, 1, None
         self.raised, self.marks, self.goes_on, self.places = 0, {}, False, []
         self.begins, self.attempt, self.replier, self.ready, self.earlier = False, False, None, False, None
+        self.ends = self.moved = False
 
     def is_slot(self):
         return self.event.kind == SLOT and not self.refused
@@ -105,6 +108,15 @@ def cleared(model):
     for address in STATUS_BYTES:
         trial.write(address, trial.map()[address] & 0xF8)
     return trial
+
+
+def ends(model, levels):
+    """Whether a slot ends the service: in a copy no channel can be chosen after it."""
+    trial = cleared(model)
+    for address in STATUS_BYTES:
+        trial.write(address, trial.map()[address] | 3)
+    trial.slot(levels)
+    return not trial.read(LINE_STATUS) & TXG
 
 
 def marks(model):
@@ -171,6 +183,7 @@ class Trace:
     def __init__(self, library, played):
         self.model, self.played = frapmast.Controller(library), played
         self.level = 1  # driven in the next slot, before IVTX
+        self.connected = 0  # the input sampled in the last slot
         self.length = 0  # slots of the frame under way
         self.attempt = False
         self.last = View(self.model)
@@ -209,6 +222,7 @@ class Trace:
         if view.mode == "asleep":
             return
         step.connected = connected(self.model, view)
+        step.moved, self.connected = step.connected != self.connected, step.connected
         step.sampled = (levels >> step.connected ^ view.map[LINE]) & 1
         if view.mode == "idle":
             return
@@ -218,6 +232,7 @@ class Trace:
             step.replier = replier(self.model)
         if not view.frame() and step.sampled == 0:
             step.earlier = self.model.copy()
+        step.ends = view.service() and ends(self.model, levels)
         if view.frame() or step.begins:
             trial = cleared(self.model)
             trial.slot(levels)

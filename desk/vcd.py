@@ -4,7 +4,7 @@ calls of libfrapmast.so answer; docs/TOOLS.md says where each comes from.
 A session has no times. A slot is drawn SLOT long, and its sample in its middle. Host accesses between two slots are drawn in equal steps
 behind the sample of the first one.
 """
-from .frames import PARTS, gathered, parts
+from .frames import DATA, PARTS, UNSURE, gathered
 from .registers import LINE
 from .sessions import Played
 from .trace import SA, SB, SC, Trace
@@ -23,7 +23,7 @@ def vcd_of(library, session, slot, words):
     """The lines of the file, and whether the session is good. A slot lasts so many nanoseconds; words: with texts for GTKWave."""
     played = Played(library, session)
     trace = Trace(library, played)
-    waves = Waves(slot, trace.steps, part_names(library, trace))
+    waves = Waves(slot, trace, part_names(library, trace))
     return header(slot, words) + waves.lines(words), not played.bad
 
 
@@ -32,7 +32,7 @@ def part_names(library, trace):
     found = {}
     for group in gathered(library, trace):
         if group.frame is not None:
-            found.update((step.number, part) for step, part in zip(group.frame.steps, parts(group.frame.levels())))
+            found.update((step.number, DATA if part == UNSURE else part) for step, part in zip(group.frame.steps, group.frame.parts()))
     return found
 
 
@@ -57,8 +57,8 @@ def change(name, value):
 class Waves:
     """The changes of all signals, in the order of time."""
 
-    def __init__(self, slot, steps, names):
-        self.slot, self.names = slot, names
+    def __init__(self, slot, trace, names):
+        self.slot, self.names, steps = slot, names, trace.steps
         self.moments = []  # time, and signals with their values
         self.driven = 1
         self.at(0, dict.fromkeys(WIRES, "x") | {"txd": 1} | self.parts(None) | {"event": 0})
@@ -73,7 +73,8 @@ class Waves:
             else:
                 behind.append(step)
         self.host(period, behind)
-        self.finish(period + slot, steps)
+        self.at(period + slot, {"txd": trace.level ^ trace.last.map[LINE] >> 1 & 1})  # the level driven behind the last slot
+        self.at(period + 2 * slot, {})
 
     def at(self, time, values):
         self.moments.append((time, values))
@@ -101,13 +102,6 @@ class Waves:
             time = period + self.slot // 2 + self.slot // 2 * k // (len(steps) + 1)
             txd = {"txd": self.driven ^ step.after.map[LINE] >> 1 & 1}
             self.at(time, self.state(step.after) | txd | {"event": step.number})
-
-    def finish(self, time, steps):
-        """The level driven behind the last slot."""
-        last = next((step for step in reversed(steps) if step.is_slot()), None)
-        if last is not None and steps[-1] is last:
-            self.at(time, {"txd": last.answer})
-        self.at(time + self.slot, {})
 
     def lines(self, words):
         """The changes alone, a time before those of its moment."""
