@@ -1,7 +1,6 @@
 """The listing of a session with what each line means. This is not proved. It shows what the proved player and the calls of libfrapmast.so answer."""
 from .frame_words import frame_fails, frame_words
-from .frames import KINDS, MARK as MARKS
-from .frames import RAISED, frame_at, gathered
+from .frames import CHANNEL, KINDS, RAISED, frame_at, gathered
 from .registers import COMMAND, COMMANDS, LINE, NAMES, REFUSED, TRANSMIT, byte
 from .sessions import MARK, READ, WRITE, Played, broken
 from .trace import SA, SB, SC, STATUS_BYTES, Trace
@@ -73,7 +72,7 @@ def waiting(step):
     if step.event.kind != WRITE or not step.before.service():
         return []
     (address, value), words = step.event.numbers, []
-    own = address == STATUS_BYTES[step.before.sending & 15] and value & MARKS["CHER"]
+    own = address == STATUS_BYTES[step.before.sending & 15] and value & CHANNEL["CHER"]
     if own and not step.after.service():
         words.append("abort: CHTx is set")
     if not step.after.service():

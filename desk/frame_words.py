@@ -1,5 +1,5 @@
 """A frame in words. This is not proved. Where the words are `unknown`, the tool has no word for what the model did: tools/try_frapmast looks for it."""
-from .frames import ACKNOWLEDGE, CHECK, END_OF_DATA, MARK, RAISED, STORED, UNSURE
+from .frames import ACKNOWLEDGE, CHANNEL, CHECK, END_OF_DATA, RAISED, STORED, UNSURE
 from .registers import CLEAR, ERRORS, INTERRUPTS, LINE, STATUS, Channel, bits, error
 from .trace import STATUS_BYTES, all_at
 
@@ -101,7 +101,7 @@ def fault_words(frame):
     here = frame.parts()[index]
     why = WHY.get(frame.decoded) or {END_OF_DATA: "data in a reply request", ACKNOWLEDGE: "the acknowledge is wrong"}.get(here, "unknown")
     words = f"fault in {place_words(frame, index)}: {error(last.after.error)}: {why}"
-    return ", ".join([words] + [f"CHER in channel {channel}" for channel, mark in last.marks.items() if mark & MARK["CHER"]])
+    return ", ".join([words] + [f"CHER in channel {channel}" for channel, mark in last.marks.items() if mark & CHANNEL["CHER"]])
 
 
 def taken_words(frame):
@@ -110,9 +110,9 @@ def taken_words(frame):
     if taker is not None:
         channel = Channel(last.before.map, taker)
         return f"channel {taker} takes it (tag {channel.tag:03X}, mask {channel.mask:03X}), {places_words(frame)}"
-    full = [channel for channel, mark in last.marks.items() if mark & MARK["CHER"]]
+    full = [channel for channel, mark in last.marks.items() if mark & CHANNEL["CHER"]]
     if last.raised & RAISED["RE"]:  # a request that is given up marks its own channel too, with CHTx
-        return f"channel {min(full, key=lambda c: last.marks[c] & MARK['CHTX'])} has no room for it: {error(CODES['BOV'])}, CHER"
+        return f"channel {min(full, key=lambda c: last.marks[c] & CHANNEL['CHTX'])} has no room for it: {error(CODES['BOV'])}, CHER"
     return "no channel takes it" + reason(frame)
 
 
@@ -140,13 +140,13 @@ def occupied(frame):
     for channel, address in enumerate(STATUS_BYTES):
         trial = frame.steps[0].earlier.copy()
         value = trial.map()[address]
-        if not value & MARK["CHRX"]:
+        if not value & CHANNEL["CHRX"]:
             continue
-        trial.write(address, value & ~MARK["CHRX"])
+        trial.write(address, value & ~CHANNEL["CHRX"])
         driven = 1
         for step in frame.steps:  # where it now drives dominant, all inputs are dominant
             trial.write(CLEAR, 0xFF)
             levels = step.event.numbers[0] if driven else all_at(trial, 0)
             driven = trial.slot(levels) ^ trial.map()[LINE] >> 1 & 1
-        if trial.map()[address] & MARK["CHRX"] and trial.read(STATUS) & STORED:
+        if trial.map()[address] & CHANNEL["CHRX"] and trial.read(STATUS) & STORED:
             yield channel

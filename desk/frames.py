@@ -1,9 +1,10 @@
 """Frames in a trace: slots that the model follows, gathered to frames, with attempts and replies of the model. This module is not proved."""
 import frapmast
+
 from .registers import CHANNEL_BITS, INTERRUPTS
 
 RAISED = dict(INTERRUPTS)
-MARK = dict(CHANNEL_BITS)
+CHANNEL = dict(CHANNEL_BITS)
 STORED = RAISED["ROK"] | RAISED["RNOK"]
 START, IDENTIFIER, COMMAND, DATA, CHECK, END_OF_DATA, ACKNOWLEDGE, END_OF_FRAME = (
     "start", "identifier", "command", "data", "check", "end of data", "acknowledge", "end of frame")
@@ -159,7 +160,7 @@ class Frame:
         last = self.steps[-1]
         if not last.raised & STORED:
             return None
-        return next(channel for channel, bits in last.marks.items() if bits & MARK["CHRX"])
+        return next(channel for channel, bits in last.marks.items() if bits & CHANNEL["CHRX"])
 
 
 class Group:

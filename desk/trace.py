@@ -5,6 +5,7 @@ shows what comes of it. Each answer is compared with the line of the proved play
 and Sb select (`connected`), and that without a service nothing is driven before RTR (`settle`).
 """
 import frapmast
+
 from .registers import CLEAR, COMMAND, DIAGNOSIS, ERROR, LINE, LINE_STATUS, SENDING, STATUS
 from .sessions import MARK, NAMES, READ, RESET, SLOT, WRITE, Trouble
 
