@@ -1,13 +1,12 @@
 """The listing of a session with what each line means. This is not proved. It shows what the proved player and the calls of libfrapmast.so answer."""
 from .frame_words import frame_fails, frame_words
-from .frames import CHANNEL, KINDS, RAISED, frame_at, gathered
-from .registers import COMMAND, COMMANDS, LINE, NAMES, REFUSED, TRANSMIT, byte
+from .frames import KINDS, frame_at, gathered
+from .registers import CHANNEL, COMMAND, COMMAND_BIT, LINE, NAMES, RAISED, REFUSED, TRANSMIT, byte
 from .sessions import MARK, READ, WRITE, Played, broken
 from .trace import SA, SB, SC, STATUS_BYTES, Trace
 
 CONDITION = {0: "no fault on a wire", SA: "Sa, fault on DATA (RxD1)", SB: "Sb, fault on DATA-bar (RxD2)", SA | SB: "Sa Sb, major error"}
 INPUTS = ["RxD0", "RxD1", "RxD2"]
-BIT = dict(COMMANDS)
 PAUSE = 8  # recessive slots that end a stretch in which no frame is found
 ROW = 40  # levels that a line shows
 
@@ -77,9 +76,9 @@ def waiting(step):
         words.append("abort: CHTx is set")
     if not step.after.service():
         return words
-    if own or address == COMMAND and value & BIT["REAR"]:
+    if own or address == COMMAND and value & COMMAND_BIT["REAR"]:
         words.append("the service is to end after the attempt")
-    if address == COMMAND and value & BIT["IDLE"]:
+    if address == COMMAND and value & COMMAND_BIT["IDLE"]:
         words.append("IDLE waits for the service to end")
     return words
 

@@ -1,11 +1,10 @@
 """A frame in words. This is not proved. Where the words are `unknown`, the tool has no word for what the model did: tools/try_frapmast looks for it."""
-from .frames import ACKNOWLEDGE, CHANNEL, CHECK, END_OF_DATA, RAISED, STORED, UNSURE
-from .registers import CLEAR, ERRORS, INTERRUPTS, LINE, STATUS, Channel, bits, error
+from .frames import ACKNOWLEDGE, CHECK, END_OF_DATA, UNSURE
+from .registers import CHANNEL, CLEAR, CODE, INTERRUPTS, LINE, RAISED, STATUS, STORED, Channel, bits, error
 from .trace import STATUS_BYTES, all_at
 
 WHY = {20: "a slot of the start is wrong", 21: "the pair 11", 22: "the pair 00 where a bit and its opposite are due", 23: "the check is wrong",
        24: "the first acknowledge slot is 0", 25: "a slot of the end of frame is 0"}
-CODES = dict(ERRORS)
 UNFINISHED = {"dropped": "dropped by the IDLE that waited", "cut off": "cut off", "under way": "under way as the session ends"}
 
 
@@ -55,7 +54,7 @@ def acknowledged(first, second):
 def place_words(frame, index):
     """A slot of the frame and its part. FCSE in a frame of the model's own is given in the check alone."""
     part = frame.parts()[index]
-    if part == UNSURE and frame.fails() and frame.steps[index].after.error == CODES["FCSE"]:
+    if part == UNSURE and frame.fails() and frame.steps[index].after.error == CODE["FCSE"]:
         part = CHECK
     return f"slot {index} ({part})"
 
@@ -112,7 +111,7 @@ def taken_words(frame):
         return f"channel {taker} takes it (tag {channel.tag:03X}, mask {channel.mask:03X}), {places_words(frame)}"
     full = [channel for channel, mark in last.marks.items() if mark & CHANNEL["CHER"]]
     if last.raised & RAISED["RE"]:  # a request that is given up marks its own channel too, with CHTx
-        return f"channel {min(full, key=lambda c: last.marks[c] & CHANNEL['CHTX'])} has no room for it: {error(CODES['BOV'])}, CHER"
+        return f"channel {min(full, key=lambda c: last.marks[c] & CHANNEL['CHTX'])} has no room for it: {error(CODE['BOV'])}, CHER"
     return "no channel takes it" + reason(frame)
 
 

@@ -1,11 +1,8 @@
 """Frames in a trace: slots that the model follows, gathered to frames, with attempts and replies of the model. This module is not proved."""
 import frapmast
 
-from .registers import CHANNEL_BITS, INTERRUPTS
+from .registers import CHANNEL, RAISED, STORED
 
-RAISED = dict(INTERRUPTS)
-CHANNEL = dict(CHANNEL_BITS)
-STORED = RAISED["ROK"] | RAISED["RNOK"]
 START, IDENTIFIER, COMMAND, DATA, CHECK, END_OF_DATA, ACKNOWLEDGE, END_OF_FRAME = (
     "start", "identifier", "command", "data", "check", "end of data", "acknowledge", "end of frame")
 PARTS = [START, IDENTIFIER, COMMAND, DATA, CHECK, END_OF_DATA, ACKNOWLEDGE, END_OF_FRAME]

@@ -6,13 +6,11 @@ and Sb select (`connected`), and that without a service nothing is driven before
 """
 import frapmast
 
-from .registers import CLEAR, COMMAND, DIAGNOSIS, ERROR, LINE, LINE_STATUS, SENDING, STATUS
+from .registers import CLEAR, COMMAND, COMMAND_BIT, DIAGNOSIS, ERROR, LINE, LINE_BIT, LINE_STATUS, SENDING, STATUS, STORED
 from .sessions import MARK, NAMES, READ, RESET, SLOT, WRITE, Trouble
 
-ACTI, REAR, MSDC = 0x10, 0x08, 0x01
-TXG, RXG = 0x02, 0x01
-SA, SB, SC = 0x04, 0x08, 0x10
-STORED = 0x03  # ROK and RNOK
+ACTI, REAR, MSDC = (COMMAND_BIT[name] for name in ("ACTI", "REAR", "MSDC"))
+IDG, TXG, RXG, SA, SB, SC = (LINE_BIT[name] for name in ("IDG", "TXG", "RXG", "SA", "SB", "SC"))
 RTR = 28  # slots of a frame before RTR: the model drives nothing earlier without a service
 STATUS_BYTES = [0x13 + 8 * channel for channel in range(14)]
 
@@ -25,10 +23,10 @@ class View:
         try:
             self.line = model.read(LINE_STATUS)
         except frapmast.Refused:
-            self.mode, self.line = "asleep", last.line & ~(TXG | RXG | 0x20)
+            self.mode, self.line = "asleep", last.line & ~(TXG | RXG | IDG)
             self.sending, self.error = last.sending, last.error
             return
-        self.mode = "idle" if self.line & 0x20 else "active"
+        self.mode = "idle" if self.line & IDG else "active"
         self.sending, self.error = model.read(SENDING), model.read(ERROR)
 
     def frame(self):
