@@ -21,7 +21,7 @@ BITS = {STATUS: INTERRUPTS, ENABLE: INTERRUPTS, CLEAR: INTERRUPTS, COMMAND: COMM
 ERROR_WORDS = {"BOC": "buffer occupied", "BOV": "buffer overflow", "FCSE": "check error", "ACKE": "acknowledge error", "CV": "code violation",
                "FV": "frame violation"}
 REFUSED = {1: "the address is above 255", 2: "the value is above 255", 5: "the levels are above 7", 7: "the controller is asleep"}
-INPUTS = ["RxD0", "RxD2", "RxD1", "automatic selection"]  # by Ma and Mb
+SELECTIONS = ["RxD0", "RxD2", "RxD1", "automatic selection"]  # by Ma and Mb
 FIRST_CHANNEL, FIRST_PLACE = 0x10, 0x80
 
 
@@ -42,7 +42,7 @@ def control(address, value):
     words = {
         LINE: lambda: " ".join(filter(None, [f"CD {value >> 4}", bits(LINE_CONTROL, value & 15)])),
         TRANSMIT: lambda: f"MR {value >> 4}, MT {value & 1}",
-        DIAGNOSIS: lambda: f"SDC {value >> 4}, {INPUTS[value >> 2 & 3]}" + (", ETIP" if value & 2 else "") + (", ESDC" if value & 1 else ""),
+        DIAGNOSIS: lambda: f"SDC {value >> 4}, {SELECTIONS[value >> 2 & 3]}" + (", ETIP" if value & 2 else "") + (", ESDC" if value & 1 else ""),
         SENDING: lambda: f"channel {value & 15}, retries {value >> 4}",
         MESSAGE: lambda: f"channel {value & 15}, retries {value >> 4}",
         ERROR: lambda: error(value),
