@@ -1,5 +1,5 @@
 /* The frame codec, the bench player and the controller for C. The functions are proved in crates/frapmast;
-   `library/build` builds the archive, target/staticlib/libfrapmast.a, and links target/library/libfrapmast.so from it
+   `library/build` builds the archive, crates/frapmast/out/libfrapmast.a, and links library/out/libfrapmast.so from it
    (x86-64 Linux; of the C library they need at most memcpy and memset). library/frapmast.py calls libfrapmast.so from
    Python.
 

@@ -14,7 +14,7 @@ import ctypes
 import os
 
 TOP = os.path.dirname(os.path.dirname(os.path.abspath(__file__)))
-SHARED = os.path.join(TOP, "target", "library", "libfrapmast.so")
+SHARED = os.path.join(TOP, "library", "out", "libfrapmast.so")
 MOST_BYTES, MOST_SLOTS, MOST_LISTING = 30, 360, 327840
 MAP, ROW = 256, 176
 

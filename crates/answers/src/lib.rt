@@ -1,10 +1,13 @@
 // What a call answers, as document 01's numbers: the refusal's number or 0, the value or 0 (01, Numbers refused).
+#![tactic(auto)]
+
 ghost use Rattle.std.specs.Prelude.{◌≡◌};
 ghost use Rattle.rules.specs.Definitions.Answers as rule;
 
 use rules::{Refusal, Reply};
 
 // 01's number of a refusal.
+#[tactic(auto, using(std::proofs::lemmas::Bool::Decides::nat_tests), unfolding(rules::specs::Definitions::Answers::number))]
 fn number(why: Refusal) -> u8
     ensures { result ≡ rule.number why }
 {
@@ -21,6 +24,7 @@ fn number(why: Refusal) -> u8
 }
 
 // The number of the refusal, or 0.
+#[tactic(auto, using(std::proofs::lemmas::Bool::Decides::nat_tests), unfolding(rules::specs::Definitions::Answers::refused_by))]
 pub fn refused_by(reply: Reply) -> u8
     ensures { result ≡ rule.refused_by reply }
 {
@@ -31,6 +35,7 @@ pub fn refused_by(reply: Reply) -> u8
 }
 
 // The value answered, or 0.
+#[tactic(auto, using(std::proofs::lemmas::Bool::Decides::nat_tests), unfolding(rules::specs::Definitions::Answers::value_of))]
 pub fn value_of(reply: Reply) -> u8
     ensures { result ≡ rule.value_of reply }
 {

@@ -15,7 +15,7 @@ use Rattle.session.specs.Claims.{Begins}
 use Rattle.session.proofs.Sessions.{prefix}
 use Rattle.rules.specs.Definitions.Run.{fresh}
 use Rattle.rules.specs.declared.Controller.{Controller}
-use Rattle.listing.specs.Listing.{line, events_line}
+use Rattle.listing.specs.Listing.{line}
 use Rattle.bench_record.specs.Claims.{BeginsWith}
 use Rattle.bench_record.specs.Record.{answer_to, lines, closing, body, listing, listing_of}
 

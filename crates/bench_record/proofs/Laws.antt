@@ -2,7 +2,7 @@
 use Prim.Native.Nat.{ℕ, suc, ◌+◌, ◌-◌, ◌≤◌, ◌<◌}
 use mathlib.Core.Bool.{Bool, true, false}
 use mathlib.Core.List.{List, ◌++◌, append_assoc}
-use mathlib.Core.Path.{◌≡◌, refl, ap, sym, ◌∙◌}
+use mathlib.Core.Path.{◌≡◌, refl, sym, ◌∙◌}
 use native.Mathlib.Nat.{zero-add, sub-zero}
 use native.Mathlib.Omega.{arith}
 use borrow.Author.Tests.{ltb-false, le-ltb, lt-ltb}
@@ -23,7 +23,6 @@ use Rattle.session.specs.Reading.{most_events, fault_number, varint_at, counted,
 use Rattle.session.proofs.Walk.{no_header, counts, none_due, stops, goes_on}
 use Rattle.rules.specs.Definitions.Run.{fresh}
 use Rattle.rules.specs.declared.Controller.{Controller}
-use Rattle.rules.specs.declared.Answer.{Answer}
 use Rattle.listing.specs.Listing.{line, events_line, bad_line}
 use Rattle.listing.specs.Laid.{Laid}
 use Rattle.listing.proofs.Laws.{joined}

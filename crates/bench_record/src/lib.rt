@@ -1,8 +1,10 @@
 // What the listing of a session is (01, Session and listing): its definition, what a player answers, and the claims on its lines.
+#![tactic(auto)]
+
 ghost use Rattle.bench_record.specs.Claims.{FirstLines, LinesStand, BadLines};
 
 // The listing's length, or 13: the room is too short for it.
-#[derive(Drop)]
+#[derive(Clone, Copy)]
 pub enum Played {
     Listed(usize),
     Short,

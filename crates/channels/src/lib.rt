@@ -1,5 +1,7 @@
 // Channels: the bits of byte 1, a channel's bytes, links (01, Memory map; 000, Channel Registers).
 // A channel number is 0 to 13; others are taken modulo 14. `low` is byte 1 of a frame or of a channel: identifier or tag bits 3 to 0, EXT, RAK, R/W, RTR.
+#![tactic(auto)]
+
 ghost use Rattle.std.specs.Prelude.{◌≡◌, ◌≤◌};
 ghost use Rattle.rules.specs.Definitions.Channels as rule;
 
@@ -8,7 +10,7 @@ use rules::{Buffer, Channel};
 pub const CHANNELS: u8 = 14;
 
 // A channel's registers: their offsets, and the masks of their bits (000, Channel Register Set Structure). +4 and +5 are plain memory.
-#[derive(Drop)]
+#[derive(Clone, Copy)]
 pub struct Layout {}
 
 impl Layout {
@@ -50,6 +52,7 @@ impl Layout {
 // ---- the bits of byte 1
 
 // EXT.
+#[tactic(auto, using(std::proofs::lemmas::Bool::Decides::nat_tests, rules::proofs::Bits::masked), unfolding(rules::specs::Definitions::Channels::extension))]
 pub fn extension(low: u8) -> bool
     ensures { result ≡ rule.extension low }
 {
@@ -57,6 +60,7 @@ pub fn extension(low: u8) -> bool
 }
 
 // RAK.
+#[tactic(auto, using(std::proofs::lemmas::Bool::Decides::nat_tests, rules::proofs::Bits::masked), unfolding(rules::specs::Definitions::Channels::acknowledge_asked))]
 pub fn acknowledge_asked(low: u8) -> bool
     ensures { result ≡ rule.acknowledge_asked low }
 {
@@ -64,6 +68,7 @@ pub fn acknowledge_asked(low: u8) -> bool
 }
 
 // R/W.
+#[tactic(auto, using(std::proofs::lemmas::Bool::Decides::nat_tests, rules::proofs::Bits::masked), unfolding(rules::specs::Definitions::Channels::reads))]
 pub fn reads(low: u8) -> bool
     ensures { result ≡ rule.reads low }
 {
@@ -71,6 +76,7 @@ pub fn reads(low: u8) -> bool
 }
 
 // RTR.
+#[tactic(auto, using(std::proofs::lemmas::Bool::Decides::nat_tests, rules::proofs::Bits::masked), unfolding(rules::specs::Definitions::Channels::remote))]
 pub fn remote(low: u8) -> bool
     ensures { result ≡ rule.remote low }
 {
@@ -80,6 +86,7 @@ pub fn remote(low: u8) -> bool
 // ---- a channel's bytes
 
 // The address of channel c.
+#[tactic(auto, using(std::proofs::lemmas::Bool::Decides::nat_tests), unfolding(rules::specs::Definitions::Channels::base))]
 pub fn base(c: u8) -> usize
     ensures value { result ≡ rule.base c }
     ensures range { result ≤ 120 }
@@ -88,6 +95,7 @@ pub fn base(c: u8) -> usize
 }
 
 // The bytes of channel c.
+#[tactic(auto, using(std::proofs::lemmas::Bool::Decides::nat_tests), unfolding(rules::specs::Definitions::Channels::channel_at))]
 pub fn channel_at(m: &[u8; 256], c: u8) -> Channel
     ensures { result ≡ rule.channel_at m.now c }
 {
@@ -103,6 +111,7 @@ pub fn channel_at(m: &[u8; 256], c: u8) -> Channel
 }
 
 // The length M_L in +3.
+#[tactic(auto, using(std::proofs::lemmas::Bool::Decides::nat_tests), unfolding(rules::specs::Definitions::Channels::length_of))]
 fn length_of(status: u8) -> u8
     ensures { result ≡ rule.length_of status }
 {
@@ -110,6 +119,7 @@ fn length_of(status: u8) -> u8
 }
 
 // CHER in +3.
+#[tactic(auto, using(std::proofs::lemmas::Bool::Decides::nat_tests, rules::proofs::Bits::masked), unfolding(rules::specs::Definitions::Channels::cher))]
 pub fn cher(status: u8) -> bool
     ensures { result ≡ rule.cher status }
 {
@@ -119,6 +129,7 @@ pub fn cher(status: u8) -> bool
 // ---- links
 
 // The buffer of a bad link.
+#[tactic(auto, using(std::proofs::lemmas::Bool::Decides::nat_tests), unfolding(rules::specs::Definitions::Channels::no_buffer))]
 fn no_buffer() -> Buffer
     ensures { result ≡ rule.no_buffer }
 {
@@ -130,6 +141,7 @@ fn no_buffer() -> Buffer
 }
 
 // The buffer by a channel's own pointer and length.
+#[tactic(auto, using(std::proofs::lemmas::Bool::Decides::nat_tests), unfolding(rules::specs::Definitions::Channels::own_buffer))]
 fn own_buffer(x: Channel) -> Buffer
     ensures { result ≡ rule.own_buffer x }
 {
@@ -145,6 +157,7 @@ fn own_buffer(x: Channel) -> Buffer
 }
 
 // The buffer of the channel that channel c links to: not above 13, not itself, not another link.
+#[tactic(auto, using(std::proofs::lemmas::Bool::Decides::nat_tests), unfolding(rules::specs::Definitions::Channels::linked_buffer))]
 fn linked_buffer(m: &[u8; 256], c: u8, link: u8) -> Buffer
     ensures { result ≡ rule.linked_buffer m.now c link }
 {
@@ -158,6 +171,7 @@ fn linked_buffer(m: &[u8; 256], c: u8, link: u8) -> Buffer
 }
 
 // The buffer that channel c uses, its link resolved.
+#[tactic(auto, using(std::proofs::lemmas::Bool::Decides::nat_tests), unfolding(rules::specs::Definitions::Channels::buffer_of))]
 pub fn buffer_of(m: &[u8; 256], c: u8) -> Buffer
     ensures { result ≡ rule.buffer_of m.now c }
 {

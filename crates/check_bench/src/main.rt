@@ -1,30 +1,30 @@
 // Works the check over standard input bit by bit, and then from the table, and writes both. bench/run counts the instructions between the writes.
+#![tactic(auto)]
+
 ghost use Rattle.std.specs.Prelude.{◌≡◌};
 ghost use Rattle.line.specs.Bits as bits;
 ghost use Rattle.line.specs.Check as check;
 ghost use Rattle.line.specs.Frame as frame;
 
-use libc::STDOUT_FILENO;
+use std::io;
+use std::io::{Read, Write};
 
-fn main() {
-    let mut room = io::buffer();
-    let n = io::read_full(0, &mut room);
-    compare(&room[..n]);
+fn main(rt: HostRuntime) -> io::Result<()> {
+    let mut bytes = Vec::new(rt.alloc());
+    rt.reader().take(4096).read_to_end(&mut bytes)?;
+    compare(&mut io::writer(&rt), &bytes)
 }
 
 // The number of bytes comes first: it costs what a line costs by itself.
-fn compare(bytes: &[u8]) {
-    io::write_all(
-        STDOUT_FILENO,
-        b"bytes, check bit by bit, check from the table\n",
-    );
-    say((bytes.len() % 65536) as u16);
-    say(bit_by_bit(bytes));
-    say(frame_check::check_of(bytes));
+fn compare<W: Write>(out: &mut W, bytes: &[u8]) -> io::Result<()> {
+    out.write_all(b"bytes, check bit by bit, check from the table\n")?;
+    say(out, (bytes.len() % 65536) as u16)?;
+    say(out, bit_by_bit(bytes))?;
+    say(out, frame_check::check_of(bytes))
 }
 
 // A line with a number, of five digits.
-fn say(number: u16) {
+fn say<W: Write>(out: &mut W, number: u16) -> io::Result<()> {
     let digits = [
         48 + (number / 10000) as u8,
         48 + (number / 1000 % 10) as u8,
@@ -33,10 +33,11 @@ fn say(number: u16) {
         48 + (number % 10) as u8,
         b'\n',
     ];
-    io::write_all(STDOUT_FILENO, &digits);
+    out.write_all(&digits)
 }
 
 // The remainder once one bit more is divided.
+#[tactic(auto, using(std::proofs::lemmas::Bool::Decides::nat_tests), unfolding(line::specs::Check::check_bit, line::specs::Check::polynomial))]
 fn bit_divided(remainder: u16, bit: u8) -> u16
     ensures { result ≡ check.check_bit remainder bit }
 {
@@ -48,6 +49,7 @@ fn bit_divided(remainder: u16, bit: u8) -> u16
 }
 
 // The remainder once the four bits of a nibble are divided.
+#[tactic(auto, using(std::proofs::lemmas::Bool::Decides::nat_tests), unfolding(line::specs::Bits::bits, line::specs::Check::remainder))]
 fn nibble_by_bits(remainder: u16, nibble: u8) -> u16
     ensures { result ≡ check.remainder remainder (bits.bits 4 nibble) }
 {
@@ -58,6 +60,7 @@ fn nibble_by_bits(remainder: u16, nibble: u8) -> u16
 }
 
 // The remainder once the eight bits of a byte are divided.
+#[tactic(auto, using(std::proofs::lemmas::Bool::Decides::nat_tests, line::proofs::Laws::bits_split, line::proofs::Laws::remainder_append))]
 fn byte_by_bits(remainder: u16, byte: u8) -> u16
     ensures { result ≡ check.remainder remainder (bits.bits 8 byte) }
 {
@@ -66,6 +69,7 @@ fn byte_by_bits(remainder: u16, byte: u8) -> u16
 }
 
 // The check over a row of bytes, one bit at a time.
+#[tactic(auto, using(std::proofs::lemmas::Bool::Decides::nat_tests, line::proofs::Laws::remainder_below, line::proofs::Laws::bytes_next, line::proofs::Laws::bytes_end), unfolding(line::specs::Check::check, line::specs::Check::all_ones))]
 fn bit_by_bit(bytes: &[u8]) -> u16
     ensures { result ≡ check.check (frame.byte_bits bytes.now) }
 {

@@ -7,14 +7,14 @@
 --   listing: `played`, `played_room` of `listing_of` (crates/player); for C: crates/frapmast
 -- Nor the numbers and sessions that 01 runs (Cases in crates/leb128 and crates/session), nor the closed runs `Courses` and `MoreCourses` (crates/rules, crates/closed_runs).
 --
--- Legend. The notation is antt's; `rt doc` prints the path of the toolchain's guide, and guides/primer.md beside it has the language.
+-- Legend. The notation is antt's; `rt doc` prints the path of the toolchain's guide, and rattle/antt/docs/primer.md beside it has the language.
 --   (x : A) → B        for every x of A, B holds        A → B: if A, then B        A → ⊥: A does not hold
 --   A × B              A and B; for some x, where it is (x : A) × B        A ↔ B: each if the other
 --   x ≡ y              x equals y; true and false are values: `matches .. ≡ true` says that the test holds
 --   [], x ∷ s          the empty list; the list of x and then those of s        s ++ t: those of s, then those of t
---   f.name            the field `name` of f.0, .1: the first and second part of a pair; .0 is also the number that Timeslots and Attempts hold
+--   f.name             the field `name` of f        p.0, p.1: the first and second part of a pair; .0 is also the number that Timeslots and Attempts hold
 --   pick b x y         x if b is true, else y
---   get_or s k d         element k of s, from 0; d where s has none        ltb k n: k is below n        a - b: 0 where b is larger
+--   get_or s k d       element k of s, from 0; d where s has none        ltb k n: k is below n        a - b: 0 where b is larger
 --   record R where     a claim whose fields are its parts: R holds if all of them do
 --   unfoldable, abbrev marks for proofs, which say where a definition may be replaced by its text; they do not change what it says
 use Rattle.std.specs.Prelude.{ℕ, ◌+◌, ◌-◌, ◌*◌, ◌/◌, ◌%◌, ◌≤◌, ◌<◌, true, false, List, [], ◌∷◌, ◌++◌, ◌↔◌, ◌≡◌, eqb, ltb, length, get_or, take}

@@ -1,10 +1,12 @@
 // What encoding and decoding answer, and the claims on them; the code is in encoder and decoder. A slot is a byte.
+#![tactic(auto)]
+
 ghost use Rattle.std.specs.Prelude.{◌≡◌, ℕ};
 ghost use Rattle.codec.specs.Answer as answer;
 ghost use Rattle.codec.specs.Claims as claims;
 
 // Why a frame or a slot sequence is refused.
-#[derive(Drop)]
+#[derive(Clone, Copy)]
 pub enum Refusal {
     Level,
     Identifier,
@@ -22,14 +24,14 @@ pub enum Refusal {
 }
 
 // The number of slots written.
-#[derive(Drop)]
+#[derive(Clone, Copy)]
 pub enum Encoded {
     Slots(usize),
     Refused(Refusal),
 }
 
 // What a decoded frame holds beside its data bytes, and how many those are.
-#[derive(Drop)]
+#[derive(Clone, Copy)]
 pub struct Head {
     pub identifier: u16,
     pub command: u8,
@@ -37,13 +39,14 @@ pub struct Head {
     pub acknowledge: bool,
 }
 
-#[derive(Drop)]
+#[derive(Clone, Copy)]
 pub enum Decoded {
     Accepted(Head),
     Refused(Refusal),
 }
 
 // 01's number of a refusal.
+#[tactic(auto, using(std::proofs::lemmas::Bool::Decides::nat_tests), unfolding(crate::specs::Answer::number))]
 pub fn number(refusal: Refusal) -> u8
     ensures { result ≡ answer.number refusal }
 {

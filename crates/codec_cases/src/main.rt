@@ -1,7 +1,11 @@
 // Runs every case of its input through the codec and writes the case with what the codec gives.
+#![tactic(auto)]
+
 ghost use Rattle.std.specs.Prelude.{◌≤◌, length};
 
 use codec::{Decoded, Encoded, Head, Refusal};
+use std::io;
+use std::io::{Read, Write};
 
 // The part of s from a to e, or nothing where that is no part of it.
 fn part(s: &[u8], a: usize, e: usize) -> &[u8] {
@@ -14,6 +18,7 @@ fn part(s: &[u8], a: usize, e: usize) -> &[u8] {
 }
 
 // The first place from `at` on that holds the byte, or the end.
+#[tactic(auto, using(std::proofs::lemmas::Bool::Decides::nat_tests))]
 fn find(s: &[u8], at: usize, byte: u8) -> usize
     ensures { result ≤ length s.now }
 {
@@ -28,6 +33,7 @@ fn find(s: &[u8], at: usize, byte: u8) -> usize
 }
 
 // The first n places, or all where there are fewer.
+#[tactic(auto, using(std::proofs::lemmas::Bool::Decides::nat_tests))]
 fn front(s: &mut [u8], n: usize) -> &mut [u8] {
     if n <= s.len() {
         return &mut s[..n];
@@ -45,6 +51,7 @@ fn behind(s: &[u8], at: usize) -> usize {
 }
 
 // Word k of a line, from 0 on; nothing where there are fewer.
+#[tactic(auto, using(std::proofs::lemmas::Bool::Decides::nat_tests))]
 fn word(s: &[u8], k: u8) -> &[u8] {
     let mut at = 0;
     let mut n = 0u8;
@@ -55,6 +62,7 @@ fn word(s: &[u8], k: u8) -> &[u8] {
     part(s, at, find(s, at, b' '))
 }
 
+#[tactic(auto, using(std::proofs::lemmas::Bool::Decides::nat_tests))]
 fn decimal(s: &[u8]) -> u32 {
     let mut x: u32 = 0;
     let mut i = 0;
@@ -85,6 +93,7 @@ fn letter(x: u8) -> u8 {
 }
 
 // Two hexadecimal digits a byte. Answers how many bytes; `-` is none.
+#[tactic(auto, using(std::proofs::lemmas::Bool::Decides::nat_tests))]
 fn read_bytes(s: &[u8], out: &mut [u8]) -> usize {
     let mut k = 0;
     while k < out.len() {
@@ -98,6 +107,7 @@ fn read_bytes(s: &[u8], out: &mut [u8]) -> usize {
 }
 
 // One digit a slot. Answers how many slots; `-` is none.
+#[tactic(auto, using(std::proofs::lemmas::Bool::Decides::nat_tests))]
 fn read_slots(s: &[u8], out: &mut [u8]) -> usize {
     let mut k = 0;
     while k < out.len() {
@@ -113,39 +123,38 @@ fn read_slots(s: &[u8], out: &mut [u8]) -> usize {
     k
 }
 
-fn say_refused(r: Refusal) {
-    io::write_all(1, b"refused ");
-    io::print_decimal(1, codec::number(r) as u64);
+fn say_refused<W: Write>(out: &mut W, r: Refusal) -> io::Result<()> {
+    let number = codec::number(r);
+    write!(out, "refused {number}")
 }
 
-fn say_slots(s: &[u8]) {
-    let mut i = 0;
-    while i < s.len() {
-        io::write_all(1, &[48 + s[i] % 10]);
-        i += 1;
+#[tactic(auto, using(std::proofs::lemmas::Bool::Decides::nat_tests))]
+fn say_slots<W: Write>(out: &mut W, s: &[u8]) -> io::Result<()> {
+    for slot in s {
+        out.write_all(&[48 + *slot % 10])?;
     }
+    Ok(())
 }
 
-fn say_bytes(s: &[u8]) {
+#[tactic(auto, using(std::proofs::lemmas::Bool::Decides::nat_tests))]
+fn say_bytes<W: Write>(out: &mut W, s: &[u8]) -> io::Result<()> {
     if s.len() == 0 {
-        io::write_all(1, b"-");
-        return;
+        return out.write_all(b"-");
     }
-    let mut i = 0;
-    while i < s.len() {
-        io::write_all(1, &[letter(s[i] / 16), letter(s[i])]);
-        i += 1;
+    for byte in s {
+        out.write_all(&[letter(*byte / 16), letter(*byte)])?;
     }
+    Ok(())
 }
 
 // encode IDENTIFIER COMMAND DATA ACKNOWLEDGE ROOM
-fn encode_case(s: &[u8]) {
+fn encode_case<W: Write>(out: &mut W, s: &[u8]) -> io::Result<()> {
     let mut data = [0u8; 80];
     let mut slots = [0u8; 512];
     let n = read_bytes(word(s, 3), &mut data);
     match encode_words(s, part(&data, 0, n), &mut slots) {
-        Encoded::Refused(r) => say_refused(r),
-        Encoded::Slots(k) => say_slots(part(&slots, 0, k)),
+        Encoded::Refused(r) => say_refused(out, r),
+        Encoded::Slots(k) => say_slots(out, part(&slots, 0, k)),
     }
 }
 
@@ -161,37 +170,35 @@ fn encode_words(s: &[u8], bytes: &[u8], slots: &mut [u8]) -> Encoded {
     )
 }
 
-fn say_flag(b: bool) {
+fn say_flag<W: Write>(out: &mut W, b: bool) -> io::Result<()> {
     if b {
-        io::write_all(1, b" 1");
-        return;
+        return out.write_all(b" 1");
     }
-    io::write_all(1, b" 0");
+    out.write_all(b" 0")
 }
 
 // decode SLOTS ROOM
-fn decode_case(s: &[u8]) {
+fn decode_case<W: Write>(out: &mut W, s: &[u8]) -> io::Result<()> {
     let mut slots = [0u8; 512];
     let mut data = [0u8; 80];
     let n = read_slots(word(s, 1), &mut slots);
     let room = value_of(s, 2) as usize;
     match decoder::decode(part(&slots, 0, n), front(&mut data, room)) {
-        Decoded::Refused(r) => say_refused(r),
-        Decoded::Accepted(h) => say_frame(h, &data),
+        Decoded::Refused(r) => say_refused(out, r),
+        Decoded::Accepted(h) => say_frame(out, h, &data),
     }
 }
 
-fn say_frame(h: Head, data: &[u8]) {
-    io::print_decimal(1, h.identifier as u64);
-    io::write_all(1, b" ");
-    io::print_decimal(1, h.command as u64);
-    io::write_all(1, b" ");
-    say_bytes(part(data, 0, h.count as usize));
-    say_flag(h.acknowledge);
+fn say_frame<W: Write>(out: &mut W, h: Head, data: &[u8]) -> io::Result<()> {
+    let identifier = h.identifier;
+    let command = h.command;
+    write!(out, "{identifier} {command} ")?;
+    say_bytes(out, part(data, 0, h.count as usize))?;
+    say_flag(out, h.acknowledge)
 }
 
 // captured IDENTIFIER COMMAND DATA: the check that stands in the encoded frame, followed by a zero bit
-fn captured_case(s: &[u8]) {
+fn captured_case<W: Write>(out: &mut W, s: &[u8]) -> io::Result<()> {
     let mut data = [0u8; 80];
     let mut slots = [0u8; 512];
     let n = read_bytes(word(s, 3), &mut data) % 31;
@@ -202,14 +209,15 @@ fn captured_case(s: &[u8]) {
         true,
         &mut slots,
     );
-    say_check(&slots, 30 + 10 * n);
+    say_check(out, &slots, 30 + 10 * n)
 }
 
 // The two bytes whose line code begins at `at`.
-fn say_check(slots: &[u8], at: usize) {
+fn say_check<W: Write>(out: &mut W, slots: &[u8], at: usize) -> io::Result<()> {
     if at < slots.len() {
-        say_bytes(&[byte_at(slots, at), byte_at(slots, at + 10)]);
+        say_bytes(out, &[byte_at(slots, at), byte_at(slots, at + 10)])?;
     }
+    Ok(())
 }
 
 // The number that four slots write.
@@ -231,63 +239,62 @@ fn byte_at(s: &[u8], at: usize) -> u8 {
 }
 
 // bytes DATA: the check of the bytes alone
-fn bytes_case(s: &[u8]) {
+fn bytes_case<W: Write>(out: &mut W, s: &[u8]) -> io::Result<()> {
     let mut data = [0u8; 80];
     let n = read_bytes(word(s, 1), &mut data);
     let check = frame_check::check_of(part(&data, 0, n));
-    say_bytes(&[(check / 256) as u8, (check % 256) as u8]);
+    say_bytes(out, &[(check / 256) as u8, (check % 256) as u8])
 }
 
 // A line of the input, without its line feed: a case, or a remark that is written as it stands.
-fn case(s: &[u8]) {
+fn case<W: Write>(out: &mut W, s: &[u8]) -> io::Result<()> {
     let e = find(s, 0, b'=');
     if s.len() <= e {
-        io::write_all(1, s);
-        return;
+        return out.write_all(s);
     }
     let kind = s[0];
     if kind == b'#' {
-        io::write_all(1, s);
-        return;
+        return out.write_all(s);
     }
-    io::write_all(1, part(s, 0, e));
-    io::write_all(1, b"= ");
-    answer(s, kind);
+    out.write_all(part(s, 0, e))?;
+    out.write_all(b"= ")?;
+    answer(out, s, kind)
 }
 
 // What the codec gives, by the first letter of the case.
-fn answer(s: &[u8], kind: u8) {
+fn answer<W: Write>(out: &mut W, s: &[u8], kind: u8) -> io::Result<()> {
     if kind == b'e' {
-        encode_case(s);
-        return;
+        return encode_case(out, s);
     }
     if kind == b'd' {
-        decode_case(s);
-        return;
+        return decode_case(out, s);
     }
     if kind == b'c' {
-        captured_case(s);
-        return;
+        return captured_case(out, s);
     }
-    bytes_case(s);
+    bytes_case(out, s)
 }
 
 // Every line.
-fn run(s: &[u8]) {
+#[tactic(auto, using(std::proofs::lemmas::Bool::Decides::nat_tests))]
+fn run<W: Write>(out: &mut W, s: &[u8]) -> io::Result<()> {
     let mut at = 0;
     while at < s.len() {
         let e = find(s, at, 10);
-        case(part(s, at, e));
-        io::write_all(1, b"\n");
+        case(out, part(s, at, e))?;
+        out.write_all(b"\n")?;
         if e < at {
-            return;
+            return Ok(());
         }
         at = e + 1;
     }
+    Ok(())
 }
 
-fn main() {
-    let mut text = [0u8; 131072];
-    let n = io::read_full(0, &mut text);
-    run(part(&text, 0, n));
+fn main(rt: HostRuntime) -> io::Result<()> {
+    let mut text = Vec::new(rt.alloc());
+    rt.reader().take(131072).read_to_end(&mut text)?;
+    let mut out = io::BufWriter::new(rt.alloc(), io::writer(&rt))?;
+    run(&mut out, &text)?;
+    out.flush()
 }

@@ -1,185 +1,176 @@
 // Plays each session of standard input on a fresh controller and writes its number and its listing (01, Session and listing).
 // The input: how many sessions there are, then each, its length in front of it; both in two bytes, the high one first.
-use libc::{STDIN_FILENO, STDOUT_FILENO};
 use rules::{Controller, Reply};
 use session::{End, Event, Fault, Header, Item};
+use std::alloc::Global;
+use std::io;
+use std::io::{Read, Write};
 
-fn main() {
-    let count = number();
-    let mut n = 0u16;
-    while n < count {
-        line(b"session ", n as u64);
-        play_next();
-        n += 1;
+fn main(rt: HostRuntime) -> io::Result<()> {
+    let mut from = rt.reader();
+    let mut out = io::BufWriter::new(rt.alloc(), io::writer(&rt))?;
+    for n in 0..number(&mut from)? {
+        line(&mut out, b"session ", n as u64)?;
+        play_next(rt.alloc(), &mut from, &mut out)?;
     }
+    out.flush()
 }
 
 // The next byte of the input, or 0 where it has ended.
-fn byte() -> u8 {
+fn byte<R: Read>(from: &mut R) -> io::Result<u8> {
     let mut b = [0u8; 1];
-    io::read_full(STDIN_FILENO, &mut b);
-    b[0]
+    from.read(&mut b)?;
+    Ok(b[0])
 }
 
 // The next number of the input: two bytes, the high one first.
-fn number() -> u16 {
-    let high = byte() as u16;
-    let low = byte() as u16;
-    high * 256 + low
+fn number<R: Read>(from: &mut R) -> io::Result<u16> {
+    let high = byte(from)? as u16;
+    let low = byte(from)? as u16;
+    Ok(high * 256 + low)
 }
 
-fn play_next() {
-    let length = number() as usize;
-    let mut space = io::large_buffer();
-    let n = io::read_full(STDIN_FILENO, &mut space[..length]);
-    play(&space[..n]);
+fn play_next<R: Read, W: Write>(alloc: Global, from: &mut R, out: &mut W) -> io::Result<()> {
+    let length = number(from)?;
+    let mut space = Vec::new(alloc);
+    from.by_ref().take(length as u64).read_to_end(&mut space)?;
+    play(out, &space)
 }
 
 // The listing of a session.
-fn play(s: &[u8]) {
+fn play<W: Write>(out: &mut W, s: &[u8]) -> io::Result<()> {
     match session::header_at(s, 0) {
-        Header::Bad(f, p, looked) => bad(f, p, looked),
+        Header::Bad(f, p, looked) => bad(out, f, p, looked),
         Header::Good(count, first) => {
-            line(b"events ", count as u64);
-            play_events(s, count, first);
+            line(out, b"events ", count as u64)?;
+            play_events(out, s, count, first)
         }
     }
 }
 
-fn play_events(s: &[u8], count: u16, first: usize) {
+fn play_events<W: Write>(out: &mut W, s: &[u8], count: u16, first: usize) -> io::Result<()> {
     let mut c = controller::fresh();
     let mut at = first;
     let mut n = 0u16;
     while n < count {
         match reading_place::event_from(s, at) {
             Item::Bad(f, p, looked) => {
-                bad(f, p, looked);
-                return;
+                return bad(out, f, p, looked);
             }
             Item::Next(e, next) => {
-                c = play_event(c, n, e);
+                c = play_event(out, c, n, e)?;
                 at = next;
             }
         }
         n += 1;
     }
-    close(s, at, count);
+    close(out, s, at, count)
 }
 
 // What follows the last event: bytes left over, or the end.
-fn close(s: &[u8], at: usize, count: u16) {
+fn close<W: Write>(out: &mut W, s: &[u8], at: usize, count: u16) -> io::Result<()> {
     match session::end_at(s, at) {
-        End::Bad(f, p, looked) => bad(f, p, looked),
-        End::Clean => line(b"end ", count as u64),
+        End::Bad(f, p, looked) => bad(out, f, p, looked),
+        End::Clean => line(out, b"end ", count as u64),
     }
 }
 
 // An event, with its line; the controller that it leaves is the answer. A mark has no effect.
-fn play_event(c: Controller, n: u16, e: Event) -> Controller {
-    io::print_decimal(STDOUT_FILENO, n as u64);
+fn play_event<W: Write>(out: &mut W, c: Controller, n: u16, e: Event) -> io::Result<Controller> {
+    write!(out, "{n}")?;
     match e {
-        Event::Reset => reset(c),
-        Event::Write(address, value) => write(c, address, value),
-        Event::Read(address) => read(c, address),
-        Event::Slot(levels) => slot(c, levels),
+        Event::Reset => reset(out, c),
+        Event::Write(address, value) => write(out, c, address, value),
+        Event::Read(address) => read(out, c, address),
+        Event::Slot(levels) => slot(out, c, levels),
         Event::Mark(v) => {
-            line(b" mark ", v as u64);
-            c
+            line(out, b" mark ", v as u64)?;
+            Ok(c)
         }
     }
 }
 
-fn reset(c: Controller) -> Controller {
-    io::write_all(STDOUT_FILENO, b" reset");
+fn reset<W: Write>(out: &mut W, c: Controller) -> io::Result<Controller> {
+    out.write_all(b" reset")?;
     let x = controller::pin_reset(c);
-    let reply = x.reply;
-    say_done(reply);
-    x.next
+    say_done(out, x.reply)?;
+    Ok(x.next)
 }
 
-fn write(c: Controller, address: u16, value: u16) -> Controller {
-    io::write_all(STDOUT_FILENO, b" write ");
-    say_hex(address);
+fn write<W: Write>(out: &mut W, c: Controller, address: u16, value: u16) -> io::Result<Controller> {
+    out.write_all(b" write ")?;
+    say_hex(out, address)?;
     let x = controller::host_write(c, address, value);
-    let reply = x.reply;
-    say_done(reply);
-    x.next
+    say_done(out, x.reply)?;
+    Ok(x.next)
 }
 
-fn read(c: Controller, address: u16) -> Controller {
-    io::write_all(STDOUT_FILENO, b" read ");
-    say_hex(address);
+fn read<W: Write>(out: &mut W, c: Controller, address: u16) -> io::Result<Controller> {
+    out.write_all(b" read ")?;
+    say_hex(out, address)?;
     let x = controller::host_read(c, address);
-    let reply = x.reply;
-    say_byte(reply);
-    x.next
+    say_byte(out, x.reply)?;
+    Ok(x.next)
 }
 
-fn slot(c: Controller, levels: u16) -> Controller {
-    io::write_all(STDOUT_FILENO, b" slot ");
-    io::print_decimal(STDOUT_FILENO, levels as u64);
+fn slot<W: Write>(out: &mut W, c: Controller, levels: u16) -> io::Result<Controller> {
+    write!(out, " slot {levels}")?;
     let x = controller::slot(c, levels);
-    let reply = x.reply;
-    say_level(reply);
-    x.next
+    say_level(out, x.reply)?;
+    Ok(x.next)
 }
 
-fn say_done(reply: Reply) {
+fn say_done<W: Write>(out: &mut W, reply: Reply) -> io::Result<()> {
     match reply {
-        Reply::Accepted(_) => {
-            io::write_all(STDOUT_FILENO, b" ok\n");
-        }
-        Reply::Refused(_) => refused(reply),
+        Reply::Accepted(_) => out.write_all(b" ok\n"),
+        Reply::Refused(_) => refused(out, reply),
     }
 }
 
-fn say_byte(reply: Reply) {
+fn say_byte<W: Write>(out: &mut W, reply: Reply) -> io::Result<()> {
     match reply {
         Reply::Accepted(b) => {
-            io::write_all(STDOUT_FILENO, b" ");
-            say_hex(b as u16);
-            io::write_all(STDOUT_FILENO, b"\n");
+            out.write_all(b" ")?;
+            say_hex(out, b as u16)?;
+            out.write_all(b"\n")
         }
-        Reply::Refused(_) => refused(reply),
+        Reply::Refused(_) => refused(out, reply),
     }
 }
 
-fn say_level(reply: Reply) {
+fn say_level<W: Write>(out: &mut W, reply: Reply) -> io::Result<()> {
     match reply {
-        Reply::Accepted(level) => line(b" drives ", level as u64),
-        Reply::Refused(_) => refused(reply),
+        Reply::Accepted(level) => line(out, b" drives ", level as u64),
+        Reply::Refused(_) => refused(out, reply),
     }
 }
 
-fn refused(reply: Reply) {
-    line(b" refused ", answers::refused_by(reply) as u64);
+fn refused<W: Write>(out: &mut W, reply: Reply) -> io::Result<()> {
+    line(out, b" refused ", answers::refused_by(reply) as u64)
 }
 
 // The line of a fault of the session, with its place and how many bytes were looked at there.
-fn bad(f: Fault, p: usize, looked: usize) {
-    io::write_all(STDOUT_FILENO, b"bad ");
-    io::print_decimal(STDOUT_FILENO, session::fault_number(f) as u64);
-    io::write_all(STDOUT_FILENO, b" at ");
-    io::print_decimal(STDOUT_FILENO, p as u64);
-    line(b" after ", looked as u64);
+fn bad<W: Write>(out: &mut W, f: Fault, p: usize, looked: usize) -> io::Result<()> {
+    let number = session::fault_number(f);
+    write!(out, "bad {number} at {p}")?;
+    line(out, b" after ", looked as u64)
 }
 
 // A text and a number, which end the line.
-fn line(text: &[u8], n: u64) {
-    io::write_all(STDOUT_FILENO, text);
-    io::print_decimal(STDOUT_FILENO, n);
-    io::write_all(STDOUT_FILENO, b"\n");
+fn line<W: Write>(out: &mut W, text: &[u8], n: u64) -> io::Result<()> {
+    out.write_all(text)?;
+    writeln!(out, "{n}")
 }
 
 // In capital hexadecimal, two digits or more as needed.
-fn say_hex(x: u16) {
+fn say_hex<W: Write>(out: &mut W, x: u16) -> io::Result<()> {
     if 4095 < x {
-        io::write_all(STDOUT_FILENO, &[digit(x / 4096)]);
+        out.write_all(&[digit(x / 4096)])?;
     }
     if 255 < x {
-        io::write_all(STDOUT_FILENO, &[digit(x / 256)]);
+        out.write_all(&[digit(x / 256)])?;
     }
-    io::write_all(STDOUT_FILENO, &[digit(x / 16), digit(x)]);
+    out.write_all(&[digit(x / 16), digit(x)])
 }
 
 fn digit(x: u16) -> u8 {

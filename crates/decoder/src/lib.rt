@@ -1,4 +1,6 @@
 // From slots to a frame, left to right: the first fault is the answer.
+#![tactic(auto)]
+
 ghost use Rattle.std.specs.Prelude.{◌≡◌, ◌+◌, ◌*◌, ◌/◌, ◌%◌, ◌≤◌, length, drop};
 ghost use Rattle.std.proofs.lemmas.List.Edits.{sets};
 ghost use Rattle.line.specs.Bits as bits;
@@ -13,20 +15,21 @@ use codec::{Decoded, Head, Refusal};
 const MOST_NIBBLES: usize = line::MOST_NIBBLES as usize;
 
 // Where the next part begins, or the fault.
-#[derive(Drop)]
+#[derive(Clone, Copy)]
 enum Found {
     At(usize),
     Fault(Refusal),
 }
 
 // Whether an acknowledge is present, or the fault.
-#[derive(Drop)]
+#[derive(Clone, Copy)]
 enum Seen {
     Judged(bool),
     Faulty(Refusal),
 }
 
 // Every slot is 0 or 1.
+#[tactic(auto, using(std::proofs::lemmas::Bool::Decides::nat_tests, crate::proofs::Views::levels_next, crate::proofs::Views::levels_end))]
 fn levels(s: &[u8]) -> bool
     ensures { result ≡ rule.levels s.now }
 {
@@ -41,6 +44,7 @@ fn levels(s: &[u8]) -> bool
 }
 
 // Slots from `at` on that must be as written.
+#[tactic(auto, using(std::proofs::lemmas::Bool::Decides::nat_tests, crate::proofs::Views::expected_next, crate::proofs::Views::expected_cut, crate::proofs::Views::expected_end))]
 fn expected(s: &[u8], at: usize, pattern: &[u8], refusal: Refusal) -> Found
     requires { at ≤ length s.now }
     ensures { view.Follows s.now (at + length pattern.now) result (rule.expected refusal pattern.now (drop at s.now)) }
@@ -98,6 +102,7 @@ fn pair(s: &[u8], j: usize) -> Found
 }
 
 // The number that `width` bits from place i on write.
+#[tactic(auto, using(std::proofs::lemmas::Bool::Decides::nat_tests, crate::proofs::Views::slot_below, crate::proofs::Views::value_small, crate::proofs::Views::value_next))]
 fn value_at(s: &[u8], i: usize, width: usize) -> u16
     requires { (bits.Below 2 s.now) × (width ≤ 15) × (10 + (i + width) + (i + width) / 4 ≤ length s.now) }
     ensures { result ≡ bits.bits_value (view.view s.now i width) }
@@ -113,6 +118,7 @@ fn value_at(s: &[u8], i: usize, width: usize) -> u16
 }
 
 // The remainder of the first nibbles, as many as asked.
+#[tactic(auto, using(std::proofs::lemmas::Bool::Decides::nat_tests, line::proofs::Laws::remainder_below, crate::proofs::Views::remainder_next, crate::proofs::Views::value_view))]
 fn remainder_of(s: &[u8], nibbles: usize) -> u16
     requires { (bits.Below 2 s.now) × (10 + 5 * nibbles ≤ length s.now) }
     ensures { result ≡ check.remainder check.all_ones (view.view s.now 0 (4 * nibbles)) }
@@ -127,6 +133,7 @@ fn remainder_of(s: &[u8], nibbles: usize) -> u16
 }
 
 // The last fifteen of the bits of j whole nibbles and three plain bits are the check of those before them.
+#[tactic(auto, using(std::proofs::lemmas::Bool::Decides::nat_tests, line::proofs::Laws::remainder_below, crate::proofs::Views::right_view), unfolding(line::specs::Check::all_ones))]
 fn right(s: &[u8], j: usize) -> bool
     requires { (bits.Below 2 s.now) × (3 ≤ j) × (15 + 5 * j ≤ length s.now) }
     ensures { result ≡ rule.right (view.seen_bits s.now j) }
@@ -136,6 +143,7 @@ fn right(s: &[u8], j: usize) -> bool
 }
 
 // An odd number of whole nibbles, from 7 to the most.
+#[tactic(auto, using(std::proofs::lemmas::Bool::Decides::nat_tests), unfolding(codec::specs::Decode::whole, codec::specs::Decode::most))]
 fn whole(j: usize) -> bool
     ensures { result ≡ rule.whole frame.longest_data j }
 {
@@ -149,6 +157,7 @@ fn whole(j: usize) -> bool
 }
 
 // The acknowledge slots from `at` on.
+#[tactic(auto, using(std::proofs::lemmas::Bool::Decides::nat_tests, crate::proofs::Views::unacknowledged, crate::proofs::Views::first_slot, crate::proofs::Views::no_second, crate::proofs::Views::second_slot_lem))]
 fn acknowledged(s: &[u8], at: usize) -> Seen
     requires { at ≤ length s.now }
     ensures { view.Sees s.now (at + 2) result (rule.acknowledged (drop at s.now)) }
@@ -166,6 +175,7 @@ fn acknowledged(s: &[u8], at: usize) -> Seen
     Seen::Faulty(Refusal::Acknowledge)
 }
 
+#[tactic(auto, using(std::proofs::lemmas::Bool::Decides::nat_tests, crate::proofs::Views::head_seen, crate::proofs::Views::value_view))]
 fn head_of(s: &[u8], j: usize, acknowledge: bool) -> Head
     requires { (bits.Below 2 s.now) × (15 + 5 * j ≤ length s.now) × (7 ≤ j) × (j ≤ 7 + 2 * frame.longest_data) }
     ensures { result ≡ rule.head_of (rule.frame_of (view.seen_bits s.now j) acknowledge) }
@@ -181,6 +191,7 @@ fn head_of(s: &[u8], j: usize, acknowledge: bool) -> Head
 }
 
 // What follows the end of data behind j whole nibbles.
+#[tactic(auto, using(std::proofs::lemmas::Bool::Decides::nat_tests, crate::proofs::Views::not_seen, crate::proofs::Views::not_ended, crate::proofs::Views::goes_on, crate::proofs::Views::is_whole, crate::proofs::Views::gives), unfolding(line::specs::Frame::end_of_frame))]
 fn closing(s: &[u8], j: usize) -> Decoded
     requires { (bits.Below 2 s.now) × (15 + 5 * j ≤ length s.now) × (7 ≤ j) × (j ≤ 7 + 2 * frame.longest_data) × (j % 2 ≡ 1) }
     ensures { view.Gives s.now result (rule.closing (view.seen_bits s.now j) (drop (15 + 5 * j) s.now)) }
@@ -205,6 +216,7 @@ fn closing(s: &[u8], j: usize) -> Decoded
 }
 
 // The length, then the check, then what follows.
+#[tactic(auto, using(std::proofs::lemmas::Bool::Decides::nat_tests, crate::proofs::Views::whole_odd, crate::proofs::Views::judged_seen))]
 fn judged(s: &[u8], j: usize) -> Decoded
     requires { (bits.Below 2 s.now) × (15 + 5 * j ≤ length s.now) }
     ensures { view.Gives s.now result (rule.judged frame.longest_data (view.seen_bits s.now j) (drop (15 + 5 * j) s.now)) }
@@ -218,6 +230,7 @@ fn judged(s: &[u8], j: usize) -> Decoded
     Decoded::Refused(Refusal::Length)
 }
 
+#[tactic(auto, using(std::proofs::lemmas::Bool::Decides::nat_tests, codec::proofs::RoundTrip::below_levels, crate::proofs::Views::bad_level, crate::proofs::Views::bad_start, crate::proofs::Views::bad_code, crate::proofs::Views::coded, crate::proofs::Views::begun), unfolding(line::specs::Frame::start, crate::specs::View::view))]
 fn reading(s: &[u8]) -> Decoded
     ensures { view.Gives s.now result (rule.reading frame.longest_data s.now) }
 {
@@ -236,6 +249,7 @@ fn reading(s: &[u8]) -> Decoded
 }
 
 // The first n data bytes, into lent room.
+#[tactic(auto, using(std::proofs::lemmas::Bool::Decides::nat_tests, crate::proofs::Views::value_view, crate::proofs::Views::fill_next, crate::proofs::Views::fill_end))]
 fn fill(s: &[u8], room: &mut [u8], n: usize)
     requires { (bits.Below 2 s.now) × (60 + 10 * n ≤ length s.now) × (n ≤ length room.old) }
     ensures { room.new ≡ sets room.old 0 (view.bytes_at s.now 16 n) }
@@ -248,6 +262,7 @@ fn fill(s: &[u8], room: &mut [u8], n: usize)
 }
 
 // The frame that the slots are, its data bytes in the lent room; or why they are none.
+#[tactic(auto, using(std::proofs::lemmas::Bool::Decides::nat_tests, crate::proofs::Views::room_refused, crate::proofs::Views::room_short, crate::proofs::Views::room_filled))]
 pub fn decode(slots: &[u8], room: &mut [u8]) -> Decoded
     ensures answer { result ≡ rule.decoded (length room.old) (rule.reading frame.longest_data slots.now) }
     ensures room { room.new ≡ rule.decoded_room room.old (rule.reading frame.longest_data slots.now) }

@@ -1,4 +1,6 @@
 // The three-wire diagnosis: what a slot, a pulse by hand and a write to 0x02 do to it (000, Diagnosis System; 02, Req 05).
+#![tactic(auto)]
+
 ghost use Rattle.std.specs.Prelude.{◌≡◌};
 ghost use Rattle.diagnosis.specs.Rules as rule;
 ghost use Rattle.diagnosing.specs.Steady as steady;
@@ -9,6 +11,7 @@ use registers::Map;
 // ---- levels and edges
 
 // A level unlike the last slot's.
+#[tactic(auto, using(std::proofs::lemmas::Bool::Decides::nat_tests), unfolding(diagnosis::specs::Rules::edge))]
 fn edge(before: u8, levels: u8, input: u8) -> bool
     ensures { result ≡ rule.edge before levels input }
 {
@@ -16,6 +19,7 @@ fn edge(before: u8, levels: u8, input: u8) -> bool
 }
 
 // One of the three inputs differs from the others.
+#[tactic(auto, using(std::proofs::lemmas::Bool::Decides::nat_tests, crate::proofs::Tests::neither), unfolding(diagnosis::specs::Rules::differ))]
 pub fn differ(levels: u8) -> bool
     ensures { result ≡ rule.differ levels }
 {
@@ -23,6 +27,7 @@ pub fn differ(levels: u8) -> bool
 }
 
 // A count of edges, which stops at four.
+#[tactic(auto, using(std::proofs::lemmas::Bool::Decides::nat_tests), unfolding(diagnosis::specs::Rules::counted))]
 fn edges(b: bool, n: u32) -> u32
     ensures { result ≡ rule.counted 4 b n }
 {
@@ -36,6 +41,7 @@ fn edges(b: bool, n: u32) -> u32
 }
 
 // Dominant slots in a row: the count stops at eight.
+#[tactic(auto, using(std::proofs::lemmas::Bool::Decides::nat_tests), unfolding(diagnosis::specs::Rules::dominant_run, diagnosis::specs::Rules::counted))]
 pub fn dominant_run(level: u8, n: u32) -> u32
     ensures { result ≡ rule.dominant_run level n }
 {
@@ -51,6 +57,7 @@ pub fn dominant_run(level: u8, n: u32) -> u32
 // ---- the input connected to the reception logic
 
 // The automatic selection: RxD0, the wire that works, or in major error one after the other.
+#[tactic(auto, using(std::proofs::lemmas::Bool::Decides::nat_tests), unfolding(diagnosis::specs::Rules::automatic_input))]
 fn automatic_input(c: Condition, alternate: bool) -> u8
     ensures { result ≡ rule.automatic_input c alternate }
 {
@@ -68,6 +75,7 @@ fn automatic_input(c: Condition, alternate: bool) -> u8
 }
 
 // By Ma and Mb.
+#[tactic(auto, using(std::proofs::lemmas::Bool::Decides::nat_tests), unfolding(diagnosis::specs::Rules::connected))]
 pub fn connected(control: u8, x: Diagnosis) -> u8
     ensures { result ≡ rule.connected control x }
 {
@@ -87,6 +95,7 @@ pub fn connected(control: u8, x: Diagnosis) -> u8
 
 // ---- what a slot counts
 
+#[tactic(auto, using(std::proofs::lemmas::Bool::Decides::nat_tests), unfolding(diagnosis::specs::Rules::edges_counted))]
 fn edges_counted(before: u8, levels: u8, input: u8, p: Period) -> Period
     ensures { result ≡ rule.edges_counted before levels input p }
 {
@@ -100,6 +109,7 @@ fn edges_counted(before: u8, levels: u8, input: u8, p: Period) -> Period
 }
 
 // Counts, last levels and Sc.
+#[tactic(auto, using(std::proofs::lemmas::Bool::Decides::nat_tests, crate::proofs::Tests::or_pick), unfolding(diagnosis::specs::Rules::watched))]
 fn watched(input: u8, levels: u8, x: Diagnosis) -> Diagnosis
     ensures { result ≡ rule.watched input levels x }
 {
@@ -118,6 +128,7 @@ fn watched(input: u8, levels: u8, x: Diagnosis) -> Diagnosis
 // ---- what its rules find
 
 // Four edges on one wire and none on the other.
+#[tactic(auto, using(std::proofs::lemmas::Bool::Decides::nat_tests), unfolding(diagnosis::specs::Rules::asynchronous))]
 fn asynchronous(p: Period) -> Finding
     ensures { result ≡ rule.asynchronous p }
 {
@@ -137,6 +148,7 @@ fn asynchronous(p: Period) -> Finding
 }
 
 // The wire seen as dominant is correct, the recessive one is faulty.
+#[tactic(auto, using(std::proofs::lemmas::Bool::Decides::nat_tests), unfolding(diagnosis::specs::Rules::transmission))]
 fn transmission(compares: bool, levels: u8) -> Finding
     ensures { result ≡ rule.transmission compares levels }
 {
@@ -154,6 +166,7 @@ fn transmission(compares: bool, levels: u8) -> Finding
 }
 
 // Eight dominant slots in a row; else what the transmission comparison finds, else the edges.
+#[tactic(auto, using(std::proofs::lemmas::Bool::Decides::nat_tests), unfolding(diagnosis::specs::Rules::found, diagnosis::specs::Rules::protocol, diagnosis::specs::Rules::or_else))]
 fn found(compares: bool, x: Diagnosis) -> Finding
     ensures { result ≡ rule.found compares x }
 {
@@ -171,6 +184,7 @@ fn found(compares: bool, x: Diagnosis) -> Finding
 
 // ---- what that makes of the condition
 
+#[tactic(auto, using(std::proofs::lemmas::Bool::Decides::nat_tests), unfolding(diagnosis::specs::Rules::is_major))]
 fn is_major(c: Condition) -> bool
     ensures { result ≡ rule.is_major c }
 {
@@ -183,6 +197,7 @@ fn is_major(c: Condition) -> bool
 }
 
 // A condition that was found, with a note of it in the period.
+#[tactic(auto, using(std::proofs::lemmas::Bool::Decides::nat_tests), unfolding(crate::specs::Steady::failed))]
 fn failed(x: Diagnosis, c: Condition) -> Diagnosis
     ensures { result ≡ steady.failed x c }
 {
@@ -198,6 +213,7 @@ fn failed(x: Diagnosis, c: Condition) -> Diagnosis
     }
 }
 
+#[tactic(auto, using(std::proofs::lemmas::Bool::Decides::nat_tests), unfolding(diagnosis::specs::Rules::noted, diagnosis::specs::Rules::condition_found, diagnosis::specs::Rules::speaks, crate::specs::Steady::failed))]
 fn noted(f: Finding, x: Diagnosis) -> Diagnosis
     ensures { result ≡ rule.noted f x }
 {
@@ -211,6 +227,7 @@ fn noted(f: Finding, x: Diagnosis) -> Diagnosis
 
 // ---- the SDC pulse
 
+#[tactic(auto, using(std::proofs::lemmas::Bool::Decides::nat_tests), unfolding(diagnosis::specs::Rules::condition_pulsed))]
 fn condition_pulsed(control: u8, p: Period, c: Condition) -> Condition
     ensures { result ≡ rule.condition_pulsed control p c }
 {
@@ -226,6 +243,7 @@ fn condition_pulsed(control: u8, p: Period, c: Condition) -> Condition
     Condition::Nominal
 }
 
+#[tactic(auto, using(std::proofs::lemmas::Bool::Decides::nat_tests), unfolding(diagnosis::specs::Rules::new_period))]
 fn new_period() -> Period
     ensures { result ≡ rule.new_period }
 {
@@ -239,6 +257,7 @@ fn new_period() -> Period
 }
 
 // The state after a reset: nominal, the inputs recessive, nothing counted.
+#[tactic(auto, using(std::proofs::lemmas::Bool::Decides::nat_tests), unfolding(diagnosis::specs::Rules::undiagnosed))]
 pub fn undiagnosed() -> Diagnosis
     ensures { result ≡ rule.undiagnosed }
 {
@@ -253,6 +272,7 @@ pub fn undiagnosed() -> Diagnosis
 }
 
 // Period and counts start anew.
+#[tactic(auto, using(std::proofs::lemmas::Bool::Decides::nat_tests), unfolding(diagnosis::specs::Rules::renewed))]
 pub fn renewed(x: Diagnosis) -> Diagnosis
     ensures { result ≡ rule.renewed x }
 {
@@ -261,6 +281,7 @@ pub fn renewed(x: Diagnosis) -> Diagnosis
     t
 }
 
+#[tactic(auto, using(std::proofs::lemmas::Bool::Decides::nat_tests), unfolding(diagnosis::specs::Rules::pulse, diagnosis::specs::Rules::renewed))]
 fn pulse(control: u8, x: Diagnosis) -> Diagnosis
     ensures { result ≡ rule.pulse control x }
 {
@@ -277,6 +298,7 @@ fn pulse(control: u8, x: Diagnosis) -> Diagnosis
 
 // ---- major error: RxD1 first, the other after each pulse
 
+#[tactic(auto, using(std::proofs::lemmas::Bool::Decides::nat_tests), unfolding(crate::specs::Steady::alternates))]
 fn alternates(before: Condition, after: Condition, pulses: bool, alternate: bool) -> bool
     ensures { result ≡ steady.alternates before after pulses alternate }
 {
@@ -292,6 +314,7 @@ fn alternates(before: Condition, after: Condition, pulses: bool, alternate: bool
     alternate
 }
 
+#[tactic(auto, using(std::proofs::lemmas::Bool::Decides::nat_tests), unfolding(diagnosis::specs::Rules::turned, crate::specs::Steady::alternates))]
 fn turned(before: Condition, pulses: bool, x: Diagnosis) -> Diagnosis
     ensures { result ≡ rule.turned before pulses x }
 {
@@ -302,6 +325,7 @@ fn turned(before: Condition, pulses: bool, x: Diagnosis) -> Diagnosis
 }
 
 // A pulse by hand.
+#[tactic(auto, using(std::proofs::lemmas::Bool::Decides::nat_tests), unfolding(diagnosis::specs::Rules::pulsed))]
 pub fn pulsed(control: u8, x: Diagnosis) -> Diagnosis
     ensures { result ≡ rule.pulsed control x }
 {
@@ -312,6 +336,7 @@ pub fn pulsed(control: u8, x: Diagnosis) -> Diagnosis
 // ---- the divider
 
 // The slot completes the period.
+#[tactic(auto, using(std::proofs::lemmas::Bool::Decides::nat_tests, registers::proofs::Dividers::divider_positive, registers::proofs::Dividers::one_slot, crate::proofs::Tests::last_slot), unfolding(diagnosis::specs::Rules::completes))]
 fn completes(control: u8, p: Period) -> bool
     ensures { result ≡ rule.completes control p }
 {
@@ -321,6 +346,7 @@ fn completes(control: u8, p: Period) -> bool
     false
 }
 
+#[tactic(auto, using(std::proofs::lemmas::Bool::Decides::nat_tests, crate::proofs::Tests::next_slot), unfolding(diagnosis::specs::Rules::ticked))]
 fn ticked(control: u8, x: Diagnosis) -> Diagnosis
     ensures { result ≡ rule.ticked control x }
 {
@@ -339,6 +365,7 @@ fn ticked(control: u8, x: Diagnosis) -> Diagnosis
 
 // ---- a slot
 
+#[tactic(auto, using(std::proofs::lemmas::Bool::Decides::nat_tests), unfolding(diagnosis::specs::Rules::judged))]
 fn judged(control: u8, levels: u8, turns: bool, x: Diagnosis) -> Diagnosis
     ensures { result ≡ rule.judged control levels turns x }
 {
@@ -350,6 +377,7 @@ fn judged(control: u8, levels: u8, turns: bool, x: Diagnosis) -> Diagnosis
 }
 
 // Counts, findings, the divider and its pulse, whose turn it is.
+#[tactic(auto, using(std::proofs::lemmas::Bool::Decides::nat_tests), unfolding(diagnosis::specs::Rules::clocked))]
 fn worked(control: u8, levels: u8, turns: bool, x: Diagnosis) -> Diagnosis
     ensures { result ≡ rule.clocked control levels turns x }
 {
@@ -359,6 +387,7 @@ fn worked(control: u8, levels: u8, turns: bool, x: Diagnosis) -> Diagnosis
 }
 
 // No count of edges changes, and no rule speaks of them: the input connected has four, RxD1 and RxD2 have as many as each other.
+#[tactic(auto, using(std::proofs::lemmas::Bool::Decides::nat_tests), unfolding(crate::specs::Steady::settled))]
 fn settled(before: u8, levels: u8, p: Period) -> bool
     ensures { result ≡ steady.settled before levels p }
 {
@@ -375,6 +404,7 @@ fn settled(before: u8, levels: u8, p: Period) -> bool
 }
 
 // Nothing but last levels, dominant slots in a row and Sc can change.
+#[tactic(auto, using(std::proofs::lemmas::Bool::Decides::nat_tests), unfolding(crate::specs::Steady::passes))]
 pub fn passes(control: u8, levels: u8, turns: bool, run: u32, x: Diagnosis) -> bool
     ensures { result ≡ steady.passes control levels turns run x }
 {
@@ -391,6 +421,7 @@ pub fn passes(control: u8, levels: u8, turns: bool, run: u32, x: Diagnosis) -> b
 }
 
 // A slot, but for RI.
+#[tactic(auto, using(std::proofs::lemmas::Bool::Decides::nat_tests, crate::proofs::Passing::quick))]
 fn clocked(control: u8, levels: u8, turns: bool, x: Diagnosis) -> Diagnosis
     ensures { result ≡ rule.clocked control levels turns x }
 {
@@ -409,6 +440,7 @@ fn clocked(control: u8, levels: u8, turns: bool, x: Diagnosis) -> Diagnosis
 }
 
 // RI: nominal, Sc 0.
+#[tactic(auto, using(std::proofs::lemmas::Bool::Decides::nat_tests), unfolding(diagnosis::specs::Rules::returned))]
 fn returned(x: Diagnosis) -> Diagnosis
     ensures { result ≡ rule.returned x }
 {
@@ -424,6 +456,7 @@ fn returned(x: Diagnosis) -> Diagnosis
 }
 
 // A slot. turns: the model's own frame turns from dominant to recessive; ended: a good frame ends.
+#[tactic(auto, using(std::proofs::lemmas::Bool::Decides::nat_tests), unfolding(diagnosis::specs::Rules::diagnosed, diagnosis::specs::Rules::returns))]
 pub fn diagnosed(control: u8, levels: u8, turns: bool, ended: bool, x: Diagnosis) -> Diagnosis
     ensures { result ≡ rule.diagnosed control levels turns ended x }
 {
@@ -440,6 +473,7 @@ pub fn diagnosed(control: u8, levels: u8, turns: bool, ended: bool, x: Diagnosis
 // ---- 0x04
 
 // Sa: a fault on DATA.
+#[tactic(auto, using(std::proofs::lemmas::Bool::Decides::nat_tests), unfolding(diagnosis::specs::Rules::fault_on_data))]
 pub fn fault_on_data(c: Condition) -> bool
     ensures { result ≡ rule.fault_on_data c }
 {
@@ -452,6 +486,7 @@ pub fn fault_on_data(c: Condition) -> bool
 }
 
 // Sb: a fault on DATA-bar.
+#[tactic(auto, using(std::proofs::lemmas::Bool::Decides::nat_tests), unfolding(diagnosis::specs::Rules::fault_on_data_bar))]
 pub fn fault_on_data_bar(c: Condition) -> bool
     ensures { result ≡ rule.fault_on_data_bar c }
 {

@@ -1,19 +1,17 @@
 -- What the rules of a slot find, and what the automatic selection listens to.
 use Prim.Native.Nat.{ℕ, ◌+◌, ◌<◌}
-use mathlib.Core.Bool.{Bool, true, false, not, false≢true}
-use mathlib.Core.Path.{◌≡◌, refl, sym, ap, ◌∙◌}
+use mathlib.Core.Bool.{Bool, true, false}
+use mathlib.Core.Path.{◌≡◌, refl}
 use native.Mathlib.Omega.{arith}
 use lib.Pow.{pow_pos}
-use borrow.Author.Tests.{eq-eqb, ne_eqb, eqb-true, eqb-false, lt-ltb, le-ltb}
-use lib.Dec.{eqb, ltb}
+use borrow.Author.Tests.{eq-eqb, ne_eqb, eqb-true}
+use lib.Dec.{eqb}
 use Rattle.line.specs.Bits.{pick}
-use Rattle.line.proofs.Laws.{picked, pick_same}
+use Rattle.line.proofs.Laws.{pick_same}
 use Rattle.diagnosis.specs.Control.{rate, divider, selection, automatic}
 use Rattle.diagnosis.specs.Rules.{input_level, automatic_input, connected, asynchronous, transmission, protocol, or_else, found, condition_pulsed, returns}
-use Rattle.diagnosis.specs.declared.Condition.{Condition}
-use Rattle.diagnosis.specs.declared.Condition.TheVariants.{Nominal, MajorError}
-use Rattle.diagnosis.specs.declared.Finding.{Finding}
-use Rattle.diagnosis.specs.declared.Finding.TheVariants.{Nothing, Data, DataBar, Both}
+use Rattle.diagnosis.specs.declared.Condition.TheVariants.{Nominal}
+use Rattle.diagnosis.specs.declared.Finding.TheVariants.{Nothing, Data, DataBar}
 use Rattle.diagnosis.specs.declared.Period.{Period}
 use Rattle.diagnosis.specs.declared.Diagnosis.{Diagnosis}
 

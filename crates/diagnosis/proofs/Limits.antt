@@ -2,14 +2,14 @@
 --   Limits == what holds of every reached diagnosis; control is 0x02        diagnosed-limits, pulsed-limits, renewed-limits, rate-limits == it is kept
 use Prim.Native.Nat.{ℕ, ◌+◌, ◌-◌, ◌≤◌}
 use mathlib.Core.Bool.{Bool, true, false, false≢true}
-use mathlib.Core.Path.{◌≡◌, refl, ap, subst}
+use mathlib.Core.Path.{◌≡◌, subst}
 use native.Mathlib.Omega.{arith}
 use borrow.Author.Tests.{ltb-true, leb-false}
 use lib.Dec.{eqb, ltb, leb}
 use Rattle.line.specs.Bits.{pick}
 use Rattle.line.proofs.Laws.{picked}
-use Rattle.diagnosis.specs.Control.{rate, divider, divider_runs, compares_transmission}
-use Rattle.diagnosis.specs.Rules.{with_slots, with_period, new_period, undiagnosed, input_level, edge, counted, connected, dominant_run, edges_counted, watched, found, noted, renewed, pulse, turned, pulsed, completes, ticked, returns, returned, judged, clocked, diagnosed}
+use Rattle.diagnosis.specs.Control.{rate, divider, divider_runs}
+use Rattle.diagnosis.specs.Rules.{with_slots, with_period, new_period, undiagnosed, input_level, edge, counted, connected, dominant_run, edges_counted, watched, noted, renewed, pulse, turned, pulsed, completes, ticked, returns, returned, judged, clocked, diagnosed}
 use Rattle.diagnosis.specs.declared.Condition.{Condition}
 use Rattle.diagnosis.specs.declared.Finding.{Finding}
 use Rattle.diagnosis.specs.declared.Diagnosis.{Diagnosis}

@@ -1,6 +1,6 @@
 -- What closed runs of the diagnosis show: slots of given levels, with no frame of the model's own and no end of a frame, from the state after a reset.
 --   ran == a run of slots        shows == Sa + 2·Sb + 4·Sc        each == what is shown after each slot        hears == the input connected
-use Rattle.std.specs.Prelude.{ℕ, zero, suc, ◌+◌, ◌*◌, Bool, true, false, List, [], ◌∷◌, ◌++◌, ◌≡◌, replicate}
+use Rattle.std.specs.Prelude.{ℕ, ◌+◌, ◌*◌, Bool, true, false, List, [], ◌∷◌, ◌++◌, ◌≡◌, replicate}
 use Rattle.line.specs.Bits.{pick}
 use Rattle.diagnosis.specs.Control.{rate, divider, selection, automatic, compares_transmission, divider_runs}
 use Rattle.diagnosis.specs.Rules.{new_period, undiagnosed, input_level, edge, differ, counted, automatic_input, connected, edges_counted, dominant_run, watched, asynchronous, transmission, protocol, or_else, found, speaks, condition_found, is_major, noted, condition_pulsed, renewed, pulse, turned, pulsed, completes, ticked, returns, returned, judged, clocked, diagnosed, fault_on_data, fault_on_data_bar}

@@ -1,8 +1,10 @@
 // The three-wire diagnosis (000, Diagnosis System; 02, Req 05): its state, and what closed runs of its rules show. The claims over every run are in crate every_run.
+#![tactic(auto)]
+
 ghost use Rattle.diagnosis.specs.Claims as claims;
 
 // The states of the bus (000, Diagnosis States, Table 3). Degraded on DATA: fault on DATA-bar, RxD2. Degraded on DATA-bar: fault on DATA, RxD1.
-#[derive(Drop)]
+#[derive(Clone, Copy)]
 pub enum Condition {
     Nominal,
     DegradedOnData,
@@ -11,7 +13,7 @@ pub enum Condition {
 }
 
 // What the rules of a slot find: no failure, or which wire is faulty.
-#[derive(Drop)]
+#[derive(Clone, Copy)]
 pub enum Finding {
     Nothing,
     Data,
@@ -20,7 +22,7 @@ pub enum Finding {
 }
 
 // Of the SDC period so far: its slots; the edges on RxD1, on RxD2 and on the input that was connected in each slot; whether a slot had a finding.
-#[derive(Drop)]
+#[derive(Clone, Copy)]
 pub struct Period {
     pub slots: u32,
     pub rxd1: u32,
@@ -30,7 +32,7 @@ pub struct Period {
 }
 
 // The state of the diagnosis: the condition, with whose turn it is in major error; Sc; the levels of the last slot; the dominant slots in a row on the input connected; the period.
-#[derive(Drop)]
+#[derive(Clone, Copy)]
 pub struct Diagnosis {
     pub condition: Condition,
     pub alternate: bool,

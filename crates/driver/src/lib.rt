@@ -1,4 +1,6 @@
 // The line driver: the level of a slot of a frame that the model sends, found by its place (01, Frames on the line; Sending).
+#![tactic(auto)]
+
 ghost use Rattle.std.specs.Prelude.{◌≡◌, ◌+◌, ◌*◌, ◌%◌, ◌<◌, ◌≤◌};
 ghost use Rattle.line.specs.Frame as frame;
 ghost use Rattle.rules.specs.Definitions.Attempt as rule;
@@ -7,6 +9,7 @@ ghost use Rattle.driver.specs.Driver as driver;
 use rules::Coded;
 
 // A nibble of the frame's bytes, the high half of a byte first.
+#[tactic(auto, using(std::proofs::lemmas::Bool::Decides::nat_tests), unfolding(crate::specs::Driver::nibble_at))]
 fn nibble_at(bytes: [u8; line::CODED_BYTES], i: u16) -> u8
     requires { i < 2 * (frame.longest_data + 4) }
     ensures { result ≡ driver.nibble_at bytes i }
@@ -19,6 +22,7 @@ fn nibble_at(bytes: [u8; line::CODED_BYTES], i: u16) -> u8
 }
 
 // A slot of the coded part, which begins behind the start.
+#[tactic(auto, using(std::proofs::lemmas::Bool::Decides::nat_tests), unfolding(crate::specs::Driver::slot_coded))]
 fn slot_coded(bytes: [u8; line::CODED_BYTES], m: u16) -> u8
     requires { m < 38 + 10 * frame.longest_data }
     ensures { result ≡ driver.slot_coded bytes m }
@@ -39,6 +43,7 @@ fn count(n: u8) -> u8
 }
 
 // The level of slot k of the frame of n data bytes: recessive behind the end of data, and past the frame.
+#[tactic(auto, using(std::proofs::lemmas::Bool::Decides::nat_tests, crate::proofs::Levels::level_placed), unfolding(crate::specs::Driver::placed))]
 fn level_of(bytes: [u8; line::CODED_BYTES], n: u8, k: u16) -> u8
     ensures { result ≡ rule.level_at (driver.framed n bytes) k }
 {
@@ -56,6 +61,7 @@ fn level_of(bytes: [u8; line::CODED_BYTES], n: u8, k: u16) -> u8
 }
 
 // The same, of the fixed frame.
+#[tactic(auto, using(std::proofs::lemmas::Bool::Decides::nat_tests), unfolding(crate::specs::Driver::framed))]
 pub fn level_at(x: Coded, k: u16) -> u8
     ensures { result ≡ rule.level_at x k }
 {

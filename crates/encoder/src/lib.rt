@@ -1,4 +1,6 @@
 // From a frame to its slots, by the table of five-slot patterns.
+#![tactic(auto)]
+
 ghost use Rattle.std.specs.Prelude.{◌≡◌, ◌++◌, ◌+◌, ◌*◌, ◌≤◌, ◌<◌, length};
 ghost use Rattle.std.proofs.lemmas.List.Edits.{sets};
 ghost use Rattle.line.specs.Bits as bits;
@@ -13,6 +15,7 @@ use codec::{Encoded, Refusal};
 const LONGEST: usize = line::LONGEST as usize;
 
 // Slots as written, from `at` on.
+#[tactic(auto, using(std::proofs::lemmas::Bool::Decides::nat_tests, line::proofs::Room::put_next, line::proofs::Room::put_end))]
 fn put(room: &mut [u8], at: usize, slots: &[u8])
     requires { at + length slots.now ≤ length room.old }
     ensures { room.new ≡ sets room.old at slots.now }
@@ -25,6 +28,7 @@ fn put(room: &mut [u8], at: usize, slots: &[u8])
 }
 
 // The five slots of a nibble.
+#[tactic(auto, using(std::proofs::lemmas::Bool::Decides::nat_tests, line::proofs::Laws::pattern_length, line::proofs::Laws::pattern_mod))]
 fn put_nibble(room: &mut [u8], at: usize, nibble: u8)
     requires { at + 5 ≤ length room.old }
     ensures { room.new ≡ sets room.old at (code.pattern nibble) }
@@ -34,6 +38,7 @@ fn put_nibble(room: &mut [u8], at: usize, nibble: u8)
 }
 
 // Identifier and command.
+#[tactic(auto, using(std::proofs::lemmas::Bool::Decides::nat_tests, crate::proofs::Puts::joined, crate::proofs::Puts::three_nibbles, crate::proofs::Puts::three_long, crate::proofs::Puts::header_code))]
 fn put_header(room: &mut [u8], identifier: u16, command: u8)
     requires { (30 ≤ length room.old) × (identifier < 4096) × (command < 16) }
     ensures { room.new ≡ sets room.old 10 (code.line_code (bits.bits 12 identifier ++ bits.bits 4 command)) }
@@ -44,6 +49,7 @@ fn put_header(room: &mut [u8], identifier: u16, command: u8)
     put_nibble(room, 25, command);
 }
 
+#[tactic(auto, using(std::proofs::lemmas::Bool::Decides::nat_tests, line::proofs::Laws::pattern_length, crate::proofs::Puts::joined, crate::proofs::Puts::byte_slots))]
 fn put_byte(room: &mut [u8], at: usize, byte: u8)
     requires { at + 10 ≤ length room.old }
     ensures { room.new ≡ sets room.old at (code.line_code (bits.bits 8 byte)) }
@@ -52,6 +58,7 @@ fn put_byte(room: &mut [u8], at: usize, byte: u8)
     put_nibble(room, at + 5, byte % 16);
 }
 
+#[tactic(auto, using(std::proofs::lemmas::Bool::Decides::nat_tests, crate::proofs::Puts::bytes_next, crate::proofs::Puts::bytes_end))]
 fn put_bytes(room: &mut [u8], bytes: &[u8])
     requires { 30 + 10 * length bytes.now ≤ length room.old }
     ensures { room.new ≡ sets room.old 30 (code.line_code (frame.byte_bits bytes.now)) }
@@ -64,6 +71,7 @@ fn put_bytes(room: &mut [u8], bytes: &[u8])
 }
 
 // The check's fifteen bits: three nibbles and three plain bits.
+#[tactic(auto, using(std::proofs::lemmas::Bool::Decides::nat_tests, crate::proofs::Puts::joined, crate::proofs::Puts::three_nibbles, crate::proofs::Puts::three_long, crate::proofs::Puts::put_three, crate::proofs::Puts::check_code))]
 fn put_check(room: &mut [u8], at: usize, check: u16)
     requires { (at + 18 ≤ length room.old) × (check < 32768) }
     ensures { room.new ≡ sets room.old at (code.line_code (bits.bits 15 check)) }
@@ -77,6 +85,7 @@ fn put_check(room: &mut [u8], at: usize, check: u16)
 }
 
 // End of data, acknowledge and end of frame.
+#[tactic(auto, using(std::proofs::lemmas::Bool::Decides::nat_tests), unfolding(line::specs::Frame::end_of_data, line::specs::Frame::acknowledge_slots, line::specs::Frame::end_of_frame))]
 fn put_closing(room: &mut [u8], at: usize, acknowledge: bool)
     requires { at + 12 ≤ length room.old }
     ensures { room.new ≡ sets room.old at (frame.closing_slots acknowledge) }
@@ -89,6 +98,7 @@ fn put_closing(room: &mut [u8], at: usize, acknowledge: bool)
 }
 
 // The check over identifier, command and data.
+#[tactic(auto, using(std::proofs::lemmas::Bool::Decides::nat_tests, crate::proofs::Puts::check_bits))]
 fn check_of_frame(identifier: u16, command: u8, bytes: &[u8]) -> u16
     requires { (identifier < 4096) × (command < 16) }
     ensures { result ≡ check.check (bits.bits 12 identifier ++ (bits.bits 4 command ++ frame.byte_bits bytes.now)) }
@@ -98,6 +108,7 @@ fn check_of_frame(identifier: u16, command: u8, bytes: &[u8]) -> u16
 }
 
 // All slots of a frame, in room that holds them.
+#[tactic(auto, using(std::proofs::lemmas::Bool::Decides::nat_tests, line::proofs::Laws::check_below, crate::proofs::Puts::whole_frame), unfolding(line::specs::Frame::start, line::specs::Frame::covered))]
 fn put_frame(room: &mut [u8], identifier: u16, command: u8, bytes: &[u8], acknowledge: bool)
     requires { (identifier < 4096) × (command < 16) × (length bytes.now ≤ frame.longest_data) × (60 + 10 * length bytes.now ≤ length room.old) }
     ensures { room.new ≡ sets room.old 0 (frame.slots (rule.given identifier command bytes.now acknowledge)) }
@@ -112,6 +123,7 @@ fn put_frame(room: &mut [u8], identifier: u16, command: u8, bytes: &[u8], acknow
 }
 
 // The frame's slots, into lent room; or why there are none.
+#[tactic(auto, using(std::proofs::lemmas::Bool::Decides::nat_tests, line::proofs::Laws::slots_length, codec::proofs::Laws::laid_sets), unfolding(codec::specs::Encode::encoded, codec::specs::Encode::encoded_room, line::specs::Frame::size))]
 pub fn encode(
     identifier: u32,
     command: u32,

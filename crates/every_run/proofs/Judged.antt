@@ -1,6 +1,6 @@
 -- What a sample may be for an attempt.
 --   Judged == in slot k of the fixed frame        Tried == for an effort, with no attempt too
-use Prim.Native.Nat.{ℕ, ◌+◌, ◌-◌, ◌*◌, ◌≤◌, ◌<◌}
+use Prim.Native.Nat.{ℕ, ◌+◌, ◌*◌, ◌≤◌, ◌<◌}
 use mathlib.Core.Bool.{Bool, true, false, false≢true}
 use mathlib.Core.Path.{◌≡◌}
 use native.Mathlib.Omega.{arith}

@@ -16,7 +16,6 @@ use Rattle.rules.specs.Definitions.Run.{refuse, accept, unless_refused, pin_rese
 use Rattle.every_run.specs.Tally.{Tally}
 use Rattle.every_run.specs.Observer.{accepted}
 use Rattle.every_run.proofs.Sending.Beside.{seen_in, follow_t, seen_t, next_t}
-use Rattle.rules.specs.declared.Core.{Core}
 use Rattle.rules.specs.declared.Controller.{Controller}
 use Rattle.rules.specs.declared.Answer.{Answer}
 use Rattle.rules.specs.declared.Refusal.{Refusal}

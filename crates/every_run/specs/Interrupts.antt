@@ -21,8 +21,6 @@ use Rattle.rules.specs.declared.Hearing.{Hearing}
 use Rattle.rules.specs.declared.Hearing.TheVariants.{Fault, Good}
 use Rattle.rules.specs.declared.Verdict.TheVariants.{Failed, Done}
 use Rattle.rules.specs.declared.Ending.TheVariants.{Exhausted}
-use Rattle.rules.specs.declared.Role.{Role}
-use Rattle.rules.specs.declared.Role.TheVariants.{Nobody, Receiver, Sender, Asker, Replier}
 use Rattle.rules.specs.declared.Controller.{Controller}
 use Rattle.rules.specs.declared.Event.{Event}
 use Rattle.rules.specs.declared.Event.TheVariants.{Reset, Write, Slot}

@@ -1,4 +1,6 @@
 // The claims over every run of events. No code runs here: each function's contract states a claim.
+#![tactic(auto)]
+
 ghost use Rattle.every_run.specs.Claims as claims;
 ghost use Rattle.every_run.specs.OwnFrames as own;
 ghost use Rattle.every_run.specs.Interrupts as interrupts;

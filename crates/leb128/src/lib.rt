@@ -1,4 +1,6 @@
 // Unsigned LEB128, shortest form, at most three groups: the number format of a session (01, Session and listing).
+#![tactic(auto)]
+
 ghost use Rattle.std.specs.Prelude.{[], ◌≡◌};
 ghost use Rattle.leb128.specs.Leb128 as rule;
 ghost use Rattle.leb128.specs.Leb128.Parsed.{Value};
@@ -6,6 +8,7 @@ ghost use Rattle.leb128.specs.Cases.{Cases};
 
 // Reads the number at the start of s: its value, no fault, and the bytes that follow it handed back. A refusal leaves 01's number in fault, 0 in value,
 // and hands back no byte. `looked` gets how many bytes were looked at; for a good number these are the bytes that it used (02, Req 02).
+#[tactic(auto, using(std::proofs::lemmas::Bool::Decides::nat_tests), unfolding(crate::specs::Leb128::decode))]
 pub fn read<'a>(s: &'a [u8], value: &mut u16, fault: &mut u8, looked: &mut usize) -> &'a [u8]
     ensures rest { result.now ≡ rule.rest_of (rule.decode s.now) }
     ensures amount { value.new ≡ rule.value_of (rule.decode s.now) }
@@ -16,6 +19,7 @@ pub fn read<'a>(s: &'a [u8], value: &mut u16, fault: &mut u8, looked: &mut usize
 }
 
 // Reads at most `left` groups: each further group by the same rule on what remains.
+#[tactic(auto, using(std::proofs::lemmas::Bool::Decides::nat_tests, crate::proofs::GroupLaws::to_end, crate::proofs::Laws::answers, crate::proofs::Laws::no_group, crate::proofs::Laws::missing, crate::proofs::Laws::last, crate::proofs::Laws::further, crate::proofs::Laws::counts, crate::proofs::Laws::is_refused, crate::proofs::Laws::joins, crate::proofs::Laws::joins_not), unfolding(crate::specs::Leb128::rest_of, crate::specs::Leb128::value_of, crate::specs::Leb128::fault_of, crate::specs::Leb128::looked_of, crate::specs::Leb128::refusal_number))]
 fn groups<'a>(
     s: &'a [u8],
     left: usize,
@@ -58,6 +62,7 @@ fn groups<'a>(
 }
 
 // The group b before those of a value: the whole value and 0, or a refusal's number.
+#[tactic(auto, using(std::proofs::lemmas::Bool::Decides::nat_tests), unfolding(crate::specs::Leb128::before, crate::specs::Leb128::value_of, crate::specs::Leb128::fault_of, crate::specs::Leb128::refusal_number))]
 fn join(b: u8, value: &mut u16) -> u8
     ensures amount { value.new ≡ rule.value_of (rule.before b (Value value.old 0 [])) }
     ensures refusal { result ≡ rule.fault_of (rule.before b (Value value.old 0 [])) }

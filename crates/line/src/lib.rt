@@ -1,4 +1,6 @@
 // Frames on the line: the line code's table, and where each slot of a frame stands. The check is crate frame_check.
+#![tactic(auto)]
+
 ghost use Rattle.std.specs.Prelude.{◌≡◌, ◌%◌, ◌≤◌, get_or};
 ghost use Rattle.line.specs.LineCode as code;
 ghost use Rattle.line.specs.Frame as frame;
@@ -6,7 +8,7 @@ ghost use Rattle.line.specs.Layout as layout;
 ghost use Rattle.line.specs.Claims as claims;
 
 // The parts of a frame, in their order; After is past its end.
-#[derive(Drop)]
+#[derive(Clone, Copy)]
 pub enum Part {
     Start,
     Identifier,
@@ -20,7 +22,7 @@ pub enum Part {
 }
 
 // A plain slot, or a half of a bit that is sent as itself and its opposite.
-#[derive(Drop)]
+#[derive(Clone, Copy)]
 pub enum Half {
     Plain,
     First,
@@ -66,6 +68,7 @@ const PATTERNS: [[u8; 5]; 16] = [
 const START: [u8; 10] = [0, 0, 0, 0, 1, 1, 1, 1, 0, 1];
 
 // The five slots of a nibble: the low four bits of what is given.
+#[tactic(auto, using(std::proofs::lemmas::Bool::Decides::nat_tests, crate::proofs::Tables::at), unfolding(crate::specs::LineCode::pattern, crate::specs::LineCode::line_code, crate::specs::Bits::bits, crate::proofs::Tables::values))]
 pub fn pattern(nibble: u8) -> [u8; 5]
     ensures { result ≡ code.pattern (nibble % 16) }
 {
@@ -74,6 +77,7 @@ pub fn pattern(nibble: u8) -> [u8; 5]
 }
 
 // The ten slots of the start.
+#[tactic(auto, using(std::proofs::lemmas::Bool::Decides::nat_tests), unfolding(crate::specs::Frame::start))]
 pub fn start() -> [u8; 10]
     ensures { result ≡ frame.start }
 {
@@ -81,6 +85,7 @@ pub fn start() -> [u8; 10]
 }
 
 // Slot k of the start; behind it the line is recessive.
+#[tactic(auto, using(std::proofs::lemmas::Bool::Decides::nat_tests, crate::proofs::Laws::any_default), unfolding(crate::specs::Frame::start))]
 pub fn start_level(k: u16) -> u8
     ensures { result ≡ get_or frame.start k 1 }
 {
@@ -91,6 +96,7 @@ pub fn start_level(k: u16) -> u8
 }
 
 // The part that slot k of a frame of n data bytes belongs to.
+#[tactic(auto, using(std::proofs::lemmas::Bool::Decides::nat_tests), unfolding(crate::specs::Layout::part_of))]
 pub fn part_of(n: u8, k: u16) -> Part
     ensures { result ≡ layout.part_of n k }
 {
@@ -107,6 +113,7 @@ pub fn part_of(n: u8, k: u16) -> Part
 }
 
 // The same, from the data on.
+#[tactic(auto, using(std::proofs::lemmas::Bool::Decides::nat_tests), unfolding(crate::specs::Layout::part_of))]
 fn part_from_data(n: u8, k: u16) -> Part
     requires { 30 ≤ k }
     ensures { result ≡ layout.part_of n k }
@@ -131,6 +138,7 @@ fn part_from_data(n: u8, k: u16) -> Part
 }
 
 // Whether slot k of a frame of n data bytes is plain or a half of a pair.
+#[tactic(auto, using(std::proofs::lemmas::Bool::Decides::nat_tests), unfolding(crate::specs::Layout::half_of, crate::specs::Layout::in_five))]
 pub fn half_of(n: u8, k: u16) -> Half
     ensures { result ≡ layout.half_of n k }
 {

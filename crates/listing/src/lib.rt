@@ -1,4 +1,6 @@
 // The lines of a listing, written into lent room (01, Session and listing).
+#![tactic(auto)]
+
 ghost use Rattle.std.specs.Prelude.{◌≡◌, ◌++◌, ◌+◌, ◌%◌, ◌≤◌, ◌<◌, length};
 ghost use Rattle.listing.specs.Listing as rule;
 ghost use Rattle.listing.specs.Laid.{Laid, words, last_two};
@@ -6,7 +8,7 @@ ghost use Rattle.listing.specs.Laid.{Laid, words, last_two};
 use session::Event;
 
 // The lines around those of the events: their count before them; behind them a fault's number, its place and how many bytes were looked at there, or the end.
-#[derive(Drop)]
+#[derive(Clone, Copy)]
 pub enum Edge {
     Count(u16),
     Bad(u8, usize, usize),
@@ -18,6 +20,7 @@ const LONGEST_LINE: usize = 80;
 
 // ---- texts and numerals: each is laid at a place, and the place behind it is the answer
 
+#[tactic(auto, using(std::proofs::lemmas::Bool::Decides::nat_tests, line::proofs::Room::put_next, line::proofs::Room::put_end))]
 fn put_text(room: &mut [u8], at: usize, text: &[u8]) -> usize
     requires { at + length text.now ≤ length room.old }
     ensures laid { Laid room.old at text.now room.new result }
@@ -32,6 +35,7 @@ fn put_text(room: &mut [u8], at: usize, text: &[u8]) -> usize
 }
 
 // One digit.
+#[tactic(auto, using(std::proofs::lemmas::Bool::Decides::nat_tests, crate::proofs::Puts::units))]
 fn put_digit(room: &mut [u8], at: usize, n: usize) -> usize
     requires n_bound { n < 10 }
     requires room { at + 1 ≤ length room.old }
@@ -43,6 +47,7 @@ fn put_digit(room: &mut [u8], at: usize, n: usize) -> usize
 }
 
 // One or two.
+#[tactic(auto, using(std::proofs::lemmas::Bool::Decides::nat_tests, crate::proofs::Puts::tens))]
 fn put_pair(room: &mut [u8], at: usize, n: usize) -> usize
     requires n_bound { n < 100 }
     requires room { at + 2 ≤ length room.old }
@@ -58,6 +63,7 @@ fn put_pair(room: &mut [u8], at: usize, n: usize) -> usize
 }
 
 // The last two decimal digits.
+#[tactic(auto, using(std::proofs::lemmas::Bool::Decides::nat_tests, crate::proofs::Puts::last))]
 fn put_last(room: &mut [u8], at: usize, n: usize) -> usize
     requires { at + 2 ≤ length room.old }
     ensures laid { Laid room.old at (last_two n) room.new result }
@@ -69,6 +75,7 @@ fn put_last(room: &mut [u8], at: usize, n: usize) -> usize
 }
 
 // Decimal: the last two digits behind those of the hundreds.
+#[tactic(auto, using(std::proofs::lemmas::Bool::Decides::nat_tests, crate::proofs::Puts::hundreds, crate::proofs::Puts::hundreds_fit))]
 fn put_decimal(room: &mut [u8], at: usize, n: usize) -> usize
     requires { at + 20 ≤ length room.old }
     ensures laid { Laid room.old at (rule.decimal n) room.new result }
@@ -82,6 +89,7 @@ fn put_decimal(room: &mut [u8], at: usize, n: usize) -> usize
 }
 
 // The same, without recursion up to four digits.
+#[tactic(auto, using(std::proofs::lemmas::Bool::Decides::nat_tests, crate::proofs::Puts::hundreds_cut))]
 fn put_index(room: &mut [u8], at: usize, n: usize) -> usize
     requires { at + 20 ≤ length room.old }
     ensures laid { Laid room.old at (rule.decimal n) room.new result }
@@ -98,6 +106,7 @@ fn put_index(room: &mut [u8], at: usize, n: usize) -> usize
 }
 
 // The last hexadecimal digit.
+#[tactic(auto, using(std::proofs::lemmas::Bool::Decides::nat_tests), unfolding(crate::specs::Listing::digit))]
 fn digit(x: u16) -> u8
     ensures { result ≡ rule.digit (x % 16) }
 {
@@ -109,6 +118,7 @@ fn digit(x: u16) -> u8
 }
 
 // The last two hexadecimal digits.
+#[tactic(auto, using(std::proofs::lemmas::Bool::Decides::nat_tests, crate::proofs::Puts::pair))]
 fn put_two(room: &mut [u8], at: usize, x: u16) -> usize
     requires { at + 2 ≤ length room.old }
     ensures laid { Laid room.old at (rule.two_digits x) room.new result }
@@ -120,6 +130,7 @@ fn put_two(room: &mut [u8], at: usize, x: u16) -> usize
 }
 
 // Two digits or more as needed.
+#[tactic(auto, using(std::proofs::lemmas::Bool::Decides::nat_tests, crate::proofs::Laws::hexadecimal_two, crate::proofs::Puts::three, crate::proofs::Puts::four))]
 fn put_hexadecimal(room: &mut [u8], at: usize, x: u16) -> usize
     requires { at + 4 ≤ length room.old }
     ensures laid { Laid room.old at (rule.hexadecimal x) room.new result }
@@ -140,6 +151,7 @@ fn put_hexadecimal(room: &mut [u8], at: usize, x: u16) -> usize
 // ---- parts of a line
 
 // A word and a decimal number.
+#[tactic(auto, using(std::proofs::lemmas::Bool::Decides::nat_tests, crate::proofs::Laws::joined))]
 fn put_number(room: &mut [u8], at: usize, text: &[u8], n: usize) -> usize
     requires { at + length text.now + 20 ≤ length room.old }
     ensures laid { Laid room.old at (text.now ++ rule.decimal n) room.new result }
@@ -153,6 +165,7 @@ fn put_number(room: &mut [u8], at: usize, text: &[u8], n: usize) -> usize
 }
 
 // A word and a hexadecimal number.
+#[tactic(auto, using(std::proofs::lemmas::Bool::Decides::nat_tests, crate::proofs::Laws::joined))]
 fn put_address(room: &mut [u8], at: usize, text: &[u8], x: u16) -> usize
     requires { at + length text.now + 4 ≤ length room.old }
     ensures laid { Laid room.old at (text.now ++ rule.hexadecimal x) room.new result }
@@ -163,6 +176,7 @@ fn put_address(room: &mut [u8], at: usize, text: &[u8], x: u16) -> usize
 }
 
 // ` ok`, or the refusal.
+#[tactic(auto, using(std::proofs::lemmas::Bool::Decides::nat_tests), unfolding(crate::specs::Listing::ok_end, crate::specs::Listing::refused_end))]
 fn put_ok(room: &mut [u8], at: usize, refused: u8) -> usize
     requires { at + 29 ≤ length room.old }
     ensures laid { Laid room.old at (rule.ok_end refused) room.new result }
@@ -175,6 +189,7 @@ fn put_ok(room: &mut [u8], at: usize, refused: u8) -> usize
 }
 
 // The byte read, or the refusal.
+#[tactic(auto, using(std::proofs::lemmas::Bool::Decides::nat_tests), unfolding(crate::specs::Listing::byte_end, crate::specs::Listing::refused_end))]
 fn put_byte(room: &mut [u8], at: usize, refused: u8, value: u8) -> usize
     requires { at + 29 ≤ length room.old }
     ensures laid { Laid room.old at (rule.byte_end refused value) room.new result }
@@ -187,6 +202,7 @@ fn put_byte(room: &mut [u8], at: usize, refused: u8, value: u8) -> usize
 }
 
 // The level driven, or the refusal.
+#[tactic(auto, using(std::proofs::lemmas::Bool::Decides::nat_tests), unfolding(crate::specs::Listing::level_end, crate::specs::Listing::refused_end))]
 fn put_level(room: &mut [u8], at: usize, refused: u8, value: u8) -> usize
     requires { at + 29 ≤ length room.old }
     ensures laid { Laid room.old at (rule.level_end refused value) room.new result }
@@ -199,6 +215,7 @@ fn put_level(room: &mut [u8], at: usize, refused: u8, value: u8) -> usize
 }
 
 // A write and its answer. The word goes to `put_text` itself: `put_address` would be handed a copy of it at each event.
+#[tactic(auto, using(std::proofs::lemmas::Bool::Decides::nat_tests, crate::proofs::Laws::joined))]
 fn put_write(room: &mut [u8], at: usize, address: u16, refused: u8) -> usize
     requires { at + 40 ≤ length room.old }
     ensures laid { Laid room.old at ((rule.write_text ++ rule.hexadecimal address) ++ rule.ok_end refused) room.new result }
@@ -210,6 +227,7 @@ fn put_write(room: &mut [u8], at: usize, address: u16, refused: u8) -> usize
 }
 
 // A read and its answer.
+#[tactic(auto, using(std::proofs::lemmas::Bool::Decides::nat_tests, crate::proofs::Laws::joined))]
 fn put_read(room: &mut [u8], at: usize, address: u16, refused: u8, value: u8) -> usize
     requires { at + 39 ≤ length room.old }
     ensures laid { Laid room.old at ((rule.read_text ++ rule.hexadecimal address) ++ rule.byte_end refused value) room.new result }
@@ -221,6 +239,7 @@ fn put_read(room: &mut [u8], at: usize, address: u16, refused: u8, value: u8) ->
 }
 
 // An event and its answer.
+#[tactic(auto, using(std::proofs::lemmas::Bool::Decides::nat_tests, crate::proofs::Laws::joined), unfolding(crate::specs::Listing::event_text))]
 fn put_event(room: &mut [u8], at: usize, e: Event, refused: u8, value: u8) -> usize
     requires { at + 55 ≤ length room.old }
     ensures laid { Laid room.old at (rule.event_text e refused value) room.new result }
@@ -242,6 +261,7 @@ fn put_event(room: &mut [u8], at: usize, e: Event, refused: u8, value: u8) -> us
 }
 
 // An edge but for the end of its line.
+#[tactic(auto, using(std::proofs::lemmas::Bool::Decides::nat_tests, crate::proofs::Laws::joined))]
 fn put_words(room: &mut [u8], at: usize, l: Edge) -> usize
     requires { at + 75 ≤ length room.old }
     ensures laid { Laid room.old at (words l) room.new result }
@@ -270,6 +290,7 @@ fn put_newline(room: &mut [u8], at: usize) -> usize
 
 // ---- a line: where the longest would not fit, nothing is written and the place stays
 
+#[tactic(auto, using(std::proofs::lemmas::Bool::Decides::nat_tests), unfolding(crate::specs::Listing::holds))]
 fn holds(room: usize, at: usize) -> bool
     ensures { result ≡ rule.holds room at }
 {
@@ -283,6 +304,7 @@ fn holds(room: usize, at: usize) -> bool
 }
 
 // `events N`, `bad N at P after K`, `end N`.
+#[tactic(auto, using(std::proofs::lemmas::Bool::Decides::nat_tests, crate::proofs::Puts::fits, crate::proofs::Puts::held, crate::proofs::Puts::short, crate::proofs::Laws::joined, crate::proofs::Laws::ended))]
 pub fn put_edge(room: &mut [u8], at: usize, l: Edge) -> usize
     ensures place { result ≡ rule.line_place (length room.old) at (rule.edge_line l) }
     ensures room { room.new ≡ rule.line_room room.old at (rule.edge_line l) }
@@ -296,6 +318,7 @@ pub fn put_edge(room: &mut [u8], at: usize, l: Edge) -> usize
 }
 
 // An event's number, the event and its answer: the refusal's number or 0, and the value.
+#[tactic(auto, using(std::proofs::lemmas::Bool::Decides::nat_tests, crate::proofs::Puts::fits, crate::proofs::Puts::held, crate::proofs::Puts::short, crate::proofs::Laws::joined), unfolding(crate::specs::Listing::line))]
 pub fn put_line(room: &mut [u8], at: usize, index: u16, e: Event, refused: u8, value: u8) -> usize
     ensures place { result ≡ rule.line_place (length room.old) at (rule.line index e refused value) }
     ensures room { room.new ≡ rule.line_room room.old at (rule.line index e refused value) }

@@ -1,5 +1,7 @@
 // Matching: who takes a frame, who sends, who replies (01, Receiving, Sending; 02, Req 01; 000, Channel Registers).
 // `low` is byte 1 of a frame or of a channel: identifier or tag bits 3 to 0, EXT, RAK, R/W, RTR.
+#![tactic(auto)]
+
 ghost use Rattle.std.specs.Prelude.{◌≡◌, not};
 ghost use Rattle.rules.specs.Definitions.Registers.{both};
 ghost use Rattle.rules.specs.Definitions.Channels as rule;
@@ -10,6 +12,7 @@ use rules::{Buffer, Channel, Choice, Winner};
 // ---- the bits of a channel that are read here
 
 // The twelve bits of a tag, a mask or an identifier.
+#[tactic(auto, using(std::proofs::lemmas::Bool::Decides::nat_tests), unfolding(rules::specs::Definitions::Channels::twelve))]
 fn twelve(high: u8, low: u8) -> u16
     ensures { result ≡ rule.twelve high low }
 {
@@ -17,6 +20,7 @@ fn twelve(high: u8, low: u8) -> u16
 }
 
 // The no-acknowledge bit DRAK in +2.
+#[tactic(auto, using(std::proofs::lemmas::Bool::Decides::nat_tests, rules::proofs::Bits::masked), unfolding(rules::specs::Definitions::Channels::drak))]
 fn drak(pointer: u8) -> bool
     ensures { result ≡ rule.drak pointer }
 {
@@ -26,6 +30,7 @@ fn drak(pointer: u8) -> bool
 // ---- channel status, and the message types (000, Message Types)
 
 // RNW, RTR, CHTx, CHRx.
+#[tactic(auto, using(std::proofs::lemmas::Bool::Decides::nat_tests), unfolding(rules::specs::Definitions::Channels::status_bits))]
 fn status_bits(x: Channel) -> u8
     ensures { result ≡ rule.status_bits x }
 {
@@ -33,6 +38,7 @@ fn status_bits(x: Channel) -> u8
 }
 
 // 0,1,-,0.
+#[tactic(auto, using(std::proofs::lemmas::Bool::Decides::nat_tests), unfolding(rules::specs::Definitions::Channels::receive_message))]
 fn receive_message(bits: u8) -> bool
     ensures { result ≡ rule.receive_message bits }
 {
@@ -40,6 +46,7 @@ fn receive_message(bits: u8) -> bool
 }
 
 // 1,0,1,0.
+#[tactic(auto, using(std::proofs::lemmas::Bool::Decides::nat_tests), unfolding(rules::specs::Definitions::Channels::request_detection))]
 fn request_detection(bits: u8) -> bool
     ensures { result ≡ rule.request_detection bits }
 {
@@ -47,6 +54,7 @@ fn request_detection(bits: u8) -> bool
 }
 
 // 0,0,0,-.
+#[tactic(auto, using(std::proofs::lemmas::Bool::Decides::nat_tests), unfolding(rules::specs::Definitions::Channels::transmit_message))]
 fn transmit_message(bits: u8) -> bool
     ensures { result ≡ rule.transmit_message bits }
 {
@@ -54,6 +62,7 @@ fn transmit_message(bits: u8) -> bool
 }
 
 // 1,0,0,1.
+#[tactic(auto, using(std::proofs::lemmas::Bool::Decides::nat_tests), unfolding(rules::specs::Definitions::Channels::deferred_reply))]
 fn deferred_reply(bits: u8) -> bool
     ensures { result ≡ rule.deferred_reply bits }
 {
@@ -61,6 +70,7 @@ fn deferred_reply(bits: u8) -> bool
 }
 
 // 1,1,0,0.
+#[tactic(auto, using(std::proofs::lemmas::Bool::Decides::nat_tests), unfolding(rules::specs::Definitions::Channels::request_message))]
 fn reply_request(bits: u8) -> bool
     ensures { result ≡ rule.request_message bits }
 {
@@ -68,6 +78,7 @@ fn reply_request(bits: u8) -> bool
 }
 
 // 1,1,-,0.
+#[tactic(auto, using(std::proofs::lemmas::Bool::Decides::nat_tests), unfolding(rules::specs::Definitions::Channels::awaits_reply))]
 fn awaits_reply(bits: u8) -> bool
     ensures { result ≡ rule.awaits_reply bits }
 {
@@ -75,6 +86,7 @@ fn awaits_reply(bits: u8) -> bool
 }
 
 // 1,0,0,0.
+#[tactic(auto, using(std::proofs::lemmas::Bool::Decides::nat_tests), unfolding(rules::specs::Definitions::Channels::immediate_reply))]
 fn immediate_reply(bits: u8) -> bool
     ensures { result ≡ rule.immediate_reply bits }
 {
@@ -84,6 +96,7 @@ fn immediate_reply(bits: u8) -> bool
 // ---- who takes a frame
 
 // Every tag bit under a mask one equals the identifier's.
+#[tactic(auto, using(std::proofs::lemmas::Bool::Decides::nat_tests), unfolding(rules::specs::Definitions::Channels::matches))]
 fn matches(tag: u16, mask: u16, identifier: u16) -> bool
     ensures { result ≡ rule.matches tag mask identifier }
 {
@@ -91,6 +104,7 @@ fn matches(tag: u16, mask: u16, identifier: u16) -> bool
 }
 
 // The channel's tag matches the frame's identifier under the channel's mask.
+#[tactic(auto, using(std::proofs::lemmas::Bool::Decides::nat_tests))]
 fn tag_matches(x: Channel, high: u8, low: u8) -> bool
     ensures { result ≡ rule.matches (rule.twelve x.high x.low) (rule.twelve x.mask_high x.mask_low) (rule.twelve high low) }
 {
@@ -100,6 +114,7 @@ fn tag_matches(x: Channel, high: u8, low: u8) -> bool
 }
 
 // Whether the channel's status takes a frame of this command, EXT 1: a data frame (R/W 0, RTR 0), a reply request (1, 1) or a reply (1, 0).
+#[tactic(auto, using(std::proofs::lemmas::Bool::Decides::nat_tests), unfolding(rules::specs::Definitions::Channels::listens))]
 fn listens(x: Channel, low: u8) -> bool
     ensures { result ≡ rule.listens x low }
 {
@@ -111,6 +126,7 @@ fn listens(x: Channel, low: u8) -> bool
 }
 
 // Whether channel c takes the frame: it listens, its tag matches under its mask, its link is good.
+#[tactic(auto, using(std::proofs::lemmas::Bool::Decides::nat_tests), unfolding(rules::specs::Definitions::Channels::takes))]
 fn takes(m: &[u8; 256], c: u8, high: u8, low: u8) -> bool
     ensures { result ≡ rule.takes m.now c high low }
 {
@@ -126,6 +142,7 @@ fn takes(m: &[u8; 256], c: u8, high: u8, low: u8) -> bool
 }
 
 // No channel takes the frame.
+#[tactic(auto, using(std::proofs::lemmas::Bool::Decides::nat_tests), unfolding(rules::specs::Definitions::Channels::nobody))]
 fn nobody() -> Winner
     ensures { result ≡ rule.nobody }
 {
@@ -139,6 +156,7 @@ fn nobody() -> Winner
 }
 
 // Channel c takes the frame: its own DRAK, and the pointer and length that it uses.
+#[tactic(auto, using(std::proofs::lemmas::Bool::Decides::nat_tests), unfolding(rules::specs::Definitions::Channels::winner_of))]
 fn winner_of(m: &[u8; 256], c: u8) -> Winner
     ensures { result ≡ rule.winner_of m.now c }
 {
@@ -154,6 +172,7 @@ fn winner_of(m: &[u8; 256], c: u8) -> Winner
 }
 
 // The lowest channel that takes the frame.
+#[tactic(auto, using(std::proofs::lemmas::Bool::Decides::nat_tests, crate::proofs::Lowest::lowest_here, crate::proofs::Lowest::lowest_next, crate::proofs::Lowest::lowest_end))]
 fn lowest_listening(m: &[u8; 256], high: u8, low: u8) -> Choice
     ensures { result ≡ rule.lowest_listening m.now high low }
 {
@@ -168,6 +187,7 @@ fn lowest_listening(m: &[u8; 256], high: u8, low: u8) -> Choice
 }
 
 // What is held of the channel that takes the frame.
+#[tactic(auto, using(std::proofs::lemmas::Bool::Decides::nat_tests), unfolding(rules::specs::Definitions::Channels::won))]
 fn won(m: &[u8; 256], x: Choice) -> Winner
     ensures { result ≡ rule.won m.now x }
 {
@@ -178,6 +198,7 @@ fn won(m: &[u8; 256], x: Choice) -> Winner
 }
 
 // The winner of a frame, by its first two bytes.
+#[tactic(auto, using(std::proofs::lemmas::Bool::Decides::nat_tests), unfolding(rules::specs::Definitions::Channels::winner_for))]
 pub fn winner_for(m: &[u8; 256], high: u8, low: u8) -> Winner
     ensures { result ≡ rule.winner_for m.now high low }
 {
@@ -187,6 +208,7 @@ pub fn winner_for(m: &[u8; 256], high: u8, low: u8) -> Winner
 // ---- who sends
 
 // The channel's status is 0,0,0,-, 1,0,0,1 or 1,1,0,0, and CHER is 0.
+#[tactic(auto, using(std::proofs::lemmas::Bool::Decides::nat_tests), unfolding(rules::specs::Definitions::Channels::asks_to_send))]
 fn asks_to_send(x: Channel) -> bool
     ensures { result ≡ rule.asks_to_send x }
 {
@@ -196,6 +218,7 @@ fn asks_to_send(x: Channel) -> bool
 }
 
 // Whether the buffer holds a status byte and at most `longest` data bytes.
+#[tactic(auto, using(std::proofs::lemmas::Bool::Decides::nat_tests), unfolding(rules::specs::Definitions::Channels::sendable))]
 fn sendable(b: Buffer, longest: u8) -> bool
     ensures { result ≡ rule.sendable b longest }
 {
@@ -206,6 +229,7 @@ fn sendable(b: Buffer, longest: u8) -> bool
 }
 
 // Whether channel c is ready to send. The buffer is tested first: it rules out more channels.
+#[tactic(auto, using(std::proofs::lemmas::Bool::Decides::nat_tests), unfolding(rules::specs::Definitions::Channels::ready))]
 fn ready(m: &[u8; 256], longest: u8, c: u8) -> bool
     ensures { result ≡ rule.ready m.now longest c }
 {
@@ -216,6 +240,7 @@ fn ready(m: &[u8; 256], longest: u8, c: u8) -> bool
 }
 
 // The lowest channel ready to send.
+#[tactic(auto, using(std::proofs::lemmas::Bool::Decides::nat_tests, crate::proofs::Lowest::lowest_here, crate::proofs::Lowest::lowest_next, crate::proofs::Lowest::lowest_end))]
 pub fn lowest_ready(m: &[u8; 256], longest: u8) -> Choice
     ensures { result ≡ rule.lowest_ready m.now longest }
 {
@@ -232,6 +257,7 @@ pub fn lowest_ready(m: &[u8; 256], longest: u8) -> Choice
 // ---- who replies
 
 // The channel's status is 1,0,0,0, CHER is 0, and its buffer can be sent.
+#[tactic(auto, using(std::proofs::lemmas::Bool::Decides::nat_tests))]
 fn replies(x: Channel, b: Buffer, longest: u8) -> bool
     ensures { result ≡ both (rule.immediate_reply (rule.status_bits x)) (both (not (rule.cher x.status)) (rule.sendable b longest)) }
 {
@@ -239,6 +265,7 @@ fn replies(x: Channel, b: Buffer, longest: u8) -> bool
 }
 
 // Whether channel c ends the search for a replier: its tag matches, and it detects requests or replies.
+#[tactic(auto, using(std::proofs::lemmas::Bool::Decides::nat_tests), unfolding(rules::specs::Definitions::Channels::settles_reply))]
 fn settles_reply(m: &[u8; 256], longest: u8, c: u8, high: u8, low: u8) -> bool
     ensures { result ≡ rule.settles_reply m.now longest high low c }
 {
@@ -254,6 +281,7 @@ fn settles_reply(m: &[u8; 256], longest: u8, c: u8, high: u8, low: u8) -> bool
 }
 
 // The lowest channel that settles it.
+#[tactic(auto, using(std::proofs::lemmas::Bool::Decides::nat_tests, crate::proofs::Lowest::lowest_here, crate::proofs::Lowest::lowest_next, crate::proofs::Lowest::lowest_end))]
 fn lowest_settling(m: &[u8; 256], longest: u8, high: u8, low: u8) -> Choice
     ensures { result ≡ rule.lowest (rule.settles_reply m.now longest high low) rule.channels 0 }
 {
@@ -268,6 +296,7 @@ fn lowest_settling(m: &[u8; 256], longest: u8, high: u8, low: u8) -> Choice
 }
 
 // The channel, if it replies.
+#[tactic(auto, using(std::proofs::lemmas::Bool::Decides::nat_tests), unfolding(rules::specs::Definitions::Channels::if_replies))]
 fn if_replies(m: &[u8; 256], x: Choice) -> Choice
     ensures { result ≡ rule.if_replies m.now x }
 {
@@ -283,6 +312,7 @@ fn if_replies(m: &[u8; 256], x: Choice) -> Choice
 }
 
 // The channel that replies to a frame, by its first two bytes.
+#[tactic(auto, using(std::proofs::lemmas::Bool::Decides::nat_tests), unfolding(rules::specs::Definitions::Channels::replier_for))]
 pub fn replier_for(m: &[u8; 256], longest: u8, high: u8, low: u8) -> Choice
     ensures { result ≡ rule.replier_for m.now longest high low }
 {

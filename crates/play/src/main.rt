@@ -2,12 +2,13 @@
 ghost use Rattle.std.specs.Prelude.{◌≡◌, length};
 
 use bench_record::Played;
-use libc::STDOUT_FILENO;
+use std::io;
+use std::io::{Read, Write};
 
-fn main() {
-    let mut text = io::large_buffer();
-    let n = io::read_full(0, &mut text);
-    play(&text[..n]);
+fn main(rt: HostRuntime) -> io::Result<()> {
+    let mut text = Vec::new(rt.alloc());
+    rt.reader().take(65536).read_to_end(&mut text)?;
+    play(&mut io::writer(&rt), &text)
 }
 
 // Room for any listing.
@@ -17,12 +18,10 @@ fn room() -> [u8; player::ROOM]
     [0; player::ROOM]
 }
 
-fn play(s: &[u8]) {
+fn play<W: Write>(out: &mut W, s: &[u8]) -> io::Result<()> {
     let mut listing = room();
     match player::play(s, &mut listing) {
-        Played::Listed(n) => {
-            io::write_all(STDOUT_FILENO, &listing[..n]);
-        }
-        Played::Short => {}
+        Played::Listed(n) => out.write_all(&listing[..n]),
+        Played::Short => Ok(()),
     }
 }

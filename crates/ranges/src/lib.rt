@@ -1,4 +1,6 @@
 // Number 6: every number of the state is at most its largest (01, Numbers refused).
+#![tactic(auto)]
+
 ghost use Rattle.std.specs.Prelude.{◌≡◌};
 ghost use Rattle.rules.specs.Definitions.State as rule;
 ghost use Rattle.rules.specs.Definitions.Answers as answers;
@@ -7,6 +9,7 @@ use registers::Map;
 use rules::Core;
 
 // A row a line, in the order of `ranges`.
+#[tactic(auto, using(std::proofs::lemmas::Bool::Decides::nat_tests, registers::proofs::Dividers::one_slot, crate::proofs::Rows::joined_within), unfolding(rules::specs::Definitions::State::in_range, rules::specs::Definitions::State::ranges, line::specs::Frame::size))]
 pub fn in_range(m: &[u8; 256], k: Core) -> bool
     ensures { result ≡ rule.in_range (answers.controller m.now k) }
 {

@@ -1,4 +1,6 @@
 // Reads a session by a reading place that moves over its lent bytes (01, Session and listing).
+#![tactic(auto)]
+
 ghost use Rattle.std.specs.Prelude.{◌≡◌};
 ghost use Rattle.session.specs.Reading as rule;
 ghost use Rattle.reading_place.specs.Place as place;
@@ -6,13 +8,14 @@ ghost use Rattle.reading_place.specs.Place as place;
 use session::Item;
 
 // Lent bytes and a reading place.
-#[derive(Drop)]
+#[derive(Clone, Copy)]
 pub struct Session<'a> {
     pub src: &'a [u8],
     pub at: usize,
 }
 
 // The reading place at the first byte.
+#[tactic(auto, using(std::proofs::lemmas::Bool::Decides::nat_tests))]
 fn open<'a>(src: &'a [u8]) -> Session<'a>
     ensures { (result.src ≡ src.entry) × (result.at ≡ place.first) }
 {
@@ -20,6 +23,7 @@ fn open<'a>(src: &'a [u8]) -> Session<'a>
 }
 
 // The reading place moved to another byte: behind the event read, whose answer names it.
+#[tactic(auto, using(std::proofs::lemmas::Bool::Decides::nat_tests))]
 fn moved<'a>(r: Session<'a>, at: usize) -> Session<'a>
     ensures { (result.src ≡ r.entry.src) × (result.at ≡ at) }
 {
@@ -27,6 +31,7 @@ fn moved<'a>(r: Session<'a>, at: usize) -> Session<'a>
 }
 
 // What stands at the reading place.
+#[tactic(auto, using(std::proofs::lemmas::Bool::Decides::nat_tests))]
 fn event<'a>(r: Session<'a>) -> Item
     ensures { result ≡ place.here r.entry }
 {
@@ -34,6 +39,7 @@ fn event<'a>(r: Session<'a>) -> Item
 }
 
 // The same for a caller that holds the lent bytes and the place apart: a function over a `Session` is proved by hand, and a loop over one would be.
+#[tactic(auto, using(std::proofs::lemmas::Bool::Decides::nat_tests))]
 pub fn event_from(s: &[u8], at: usize) -> Item
     ensures { result ≡ rule.event_at s.now at }
 {

@@ -1,5 +1,7 @@
 // The frame under way: its place, its bits, its length (01, Receiving).
 // The frame is followed too while the model itself sends.
+#![tactic(auto)]
+
 ghost use Rattle.std.specs.Prelude.{◌≡◌, ◌<◌, ◌+◌, ◌*◌, ◌/◌, ◌%◌};
 ghost use Rattle.rules.specs.Definitions.Channels as channels_rule;
 ghost use Rattle.rules.specs.Definitions.Reception as rule;
@@ -7,6 +9,7 @@ ghost use Rattle.rules.specs.Definitions.Reception as rule;
 use rules::{Phase, Place, Reception, Winner};
 
 // A place in a frame.
+#[tactic(auto, using(std::proofs::lemmas::Bool::Decides::nat_tests), unfolding(rules::specs::Definitions::Reception::at_place))]
 fn at_place(phase: Phase, at: u8) -> Place
     ensures { result ≡ rule.at_place phase at }
 {
@@ -17,6 +20,7 @@ fn at_place(phase: Phase, at: u8) -> Place
 }
 
 // No channel takes the frame.
+#[tactic(auto, using(std::proofs::lemmas::Bool::Decides::nat_tests), unfolding(rules::specs::Definitions::Channels::nobody))]
 fn nobody() -> Winner
     ensures { result ≡ channels_rule.nobody }
 {
@@ -30,6 +34,7 @@ fn nobody() -> Winner
 }
 
 // No frame under way.
+#[tactic(auto, using(std::proofs::lemmas::Bool::Decides::nat_tests), unfolding(rules::specs::Definitions::Reception::quiet))]
 pub fn quiet() -> Reception
     ensures { result ≡ rule.quiet }
 {
@@ -45,6 +50,7 @@ pub fn quiet() -> Reception
 // ---- the frame goes on
 
 // The next slot of the same phase.
+#[tactic(auto, using(std::proofs::lemmas::Bool::Decides::nat_tests), unfolding(rules::specs::Definitions::Reception::moved))]
 fn moved(r: Reception) -> Reception
     requires { r.place.at < 255 }
     ensures { result ≡ rule.moved r }
@@ -57,6 +63,7 @@ fn moved(r: Reception) -> Reception
 }
 
 // The first slot of a phase, with no bits.
+#[tactic(auto, using(std::proofs::lemmas::Bool::Decides::nat_tests), unfolding(rules::specs::Definitions::Reception::entered))]
 fn entered(r: Reception, phase: Phase) -> Reception
     ensures { result ≡ rule.entered r phase }
 {
@@ -67,6 +74,7 @@ fn entered(r: Reception, phase: Phase) -> Reception
 }
 
 // The next slot, with one bit more of the nibble under way or of the acknowledge.
+#[tactic(auto, using(std::proofs::lemmas::Bool::Decides::nat_tests), unfolding(rules::specs::Definitions::Reception::bit_taken))]
 fn bit_taken(r: Reception, v: u8) -> Reception
     requires { r.place.at < 255 }
     ensures { result ≡ rule.bit_taken r v }
@@ -77,6 +85,7 @@ fn bit_taken(r: Reception, v: u8) -> Reception
 }
 
 // A byte with its low half replaced.
+#[tactic(auto, using(std::proofs::lemmas::Bool::Decides::nat_tests))]
 fn with_low_half(byte: u8, nibble: u8) -> u8
     ensures { result ≡ byte / 16 * 16 + nibble % 16 }
 {
@@ -84,6 +93,7 @@ fn with_low_half(byte: u8, nibble: u8) -> u8
 }
 
 // The bytes with nibble k, high half first.
+#[tactic(auto, using(std::proofs::lemmas::Bool::Decides::nat_tests), unfolding(rules::specs::Definitions::Reception::with_nibble))]
 fn with_nibble(bytes: [u8; line::CODED_BYTES], k: u8, nibble: u8) -> [u8; line::CODED_BYTES]
     ensures { result ≡ rule.with_nibble bytes k nibble }
 {
@@ -98,6 +108,7 @@ fn with_nibble(bytes: [u8; line::CODED_BYTES], k: u8, nibble: u8) -> [u8; line::
 }
 
 // One nibble more; the count stops at its largest.
+#[tactic(auto, using(std::proofs::lemmas::Bool::Decides::nat_tests), unfolding(rules::specs::Definitions::Reception::more_nibbles))]
 fn more_nibbles(n: u8) -> u8
     ensures { result ≡ rule.more_nibbles n }
 {
@@ -108,6 +119,7 @@ fn more_nibbles(n: u8) -> u8
 }
 
 // The four bits that were taken, laid behind the whole nibbles.
+#[tactic(auto, using(std::proofs::lemmas::Bool::Decides::nat_tests), unfolding(rules::specs::Definitions::Reception::bits_laid))]
 fn bits_laid(r: Reception) -> Reception
     ensures { result ≡ rule.bits_laid r }
 {
@@ -119,6 +131,7 @@ fn bits_laid(r: Reception) -> Reception
 }
 
 // A nibble closed by a proper pair.
+#[tactic(auto, using(std::proofs::lemmas::Bool::Decides::nat_tests), unfolding(rules::specs::Definitions::Reception::nibble_taken))]
 fn nibble_taken(r: Reception) -> Reception
     ensures { result ≡ rule.nibble_taken r }
 {
@@ -128,6 +141,7 @@ fn nibble_taken(r: Reception) -> Reception
 }
 
 // The end of data: the check's last three bits are laid behind its twelve, with a zero bit behind them.
+#[tactic(auto, using(std::proofs::lemmas::Bool::Decides::nat_tests), unfolding(rules::specs::Definitions::Reception::data_ended))]
 fn data_ended(r: Reception) -> Reception
     ensures { result ≡ rule.data_ended r }
 {
@@ -135,6 +149,7 @@ fn data_ended(r: Reception) -> Reception
 }
 
 // The first slot of a start is taken.
+#[tactic(auto, using(std::proofs::lemmas::Bool::Decides::nat_tests), unfolding(rules::specs::Definitions::Reception::begun))]
 pub fn begun() -> Reception
     ensures { result ≡ rule.begun }
 {
@@ -144,6 +159,7 @@ pub fn begun() -> Reception
 }
 
 // The start goes on, or the identifier is next.
+#[tactic(auto, using(std::proofs::lemmas::Bool::Decides::nat_tests), unfolding(rules::specs::Definitions::Reception::follow_start))]
 fn follow_start(r: Reception) -> Reception
     ensures { result ≡ rule.follow_start r }
 {
@@ -155,6 +171,7 @@ fn follow_start(r: Reception) -> Reception
 }
 
 // A plain bit or first half is kept; a second half closes a nibble, or ends the data where it equals the first.
+#[tactic(auto, using(std::proofs::lemmas::Bool::Decides::nat_tests), unfolding(rules::specs::Definitions::Reception::follow_body))]
 fn follow_body(r: Reception, v: u8) -> Reception
     ensures { result ≡ rule.follow_body r v }
 {
@@ -169,6 +186,7 @@ fn follow_body(r: Reception, v: u8) -> Reception
 }
 
 // The first acknowledge slot is kept for the second.
+#[tactic(auto, using(std::proofs::lemmas::Bool::Decides::nat_tests), unfolding(rules::specs::Definitions::Reception::follow_acknowledge))]
 fn follow_acknowledge(r: Reception, v: u8) -> Reception
     ensures { result ≡ rule.follow_acknowledge r v }
 {
@@ -180,6 +198,7 @@ fn follow_acknowledge(r: Reception, v: u8) -> Reception
 }
 
 // The end of frame goes on; its eighth slot is the last.
+#[tactic(auto, using(std::proofs::lemmas::Bool::Decides::nat_tests), unfolding(rules::specs::Definitions::Reception::follow_end))]
 fn follow_end(r: Reception) -> Reception
     ensures { result ≡ rule.follow_end r }
 {
@@ -191,6 +210,7 @@ fn follow_end(r: Reception) -> Reception
 }
 
 // The frame once a sample that is no fault is taken.
+#[tactic(auto, using(std::proofs::lemmas::Bool::Decides::nat_tests), unfolding(rules::specs::Definitions::Reception::followed, rules::specs::Definitions::Reception::follow_in))]
 pub fn followed(r: Reception, v: u8) -> Reception
     ensures { result ≡ rule.followed r v }
 {
@@ -208,6 +228,7 @@ pub fn followed(r: Reception, v: u8) -> Reception
 // ---- its length
 
 // Data bytes, by the whole nibbles before the last three bits: identifier, command and check have seven.
+#[tactic(auto, using(std::proofs::lemmas::Bool::Decides::nat_tests), unfolding(rules::specs::Definitions::Reception::data_count))]
 pub fn data_count(nibbles: u8) -> u8
     ensures { result ≡ rule.data_count nibbles }
 {

@@ -1,5 +1,7 @@
 // The control registers (01, Memory map; 000, Control and Status Registers).
 // 0x00, 0x01, 0x02 and 0x0A stand in the memory map. 0x05 to 0x07 and 0x09 are kept as numbers and bools, 0x04 is not kept; crate status makes their bytes.
+#![tactic(auto)]
+
 ghost use Rattle.std.specs.Prelude.{◌≡◌, ◌<◌};
 ghost use Rattle.rules.specs.Definitions.Registers as rule;
 ghost use Rattle.rules.specs.Definitions.Mailbox as memory;
@@ -10,7 +12,7 @@ ghost use Rattle.registers.specs.Command as map;
 use rules::{Flags, Report, Retries};
 
 // What a write of the command register asks for.
-#[derive(Drop)]
+#[derive(Clone, Copy)]
 pub struct Command {
     pub reset: bool,
     pub sleep: bool,
@@ -21,7 +23,7 @@ pub struct Command {
 }
 
 // The register map: address, reset value and reserved bits of each control register, and the masks of its bits (000, Control and Status Registers).
-#[derive(Drop)]
+#[derive(Clone, Copy)]
 pub struct Map {}
 
 impl Map {
@@ -158,6 +160,7 @@ impl Map {
     pub const RESERVED_TO: usize = 0x0F;
 
     // The reset value of a register; 0 where it has none.
+    #[tactic(auto, using(std::proofs::lemmas::Bool::Decides::nat_tests, line::proofs::Tables::at), unfolding(rules::specs::Definitions::Registers::reset_value, rules::specs::Definitions::Registers::row_at, rules::specs::Definitions::Registers::reset_values, line::proofs::Tables::values))]
     fn reset_value(address: usize) -> u8
         requires { address < 16 }
         ensures { result ≡ rule.reset_value address }
@@ -166,6 +169,7 @@ impl Map {
     }
 
     // The bits of a register that document 000 reserves or marks X, and the version.
+    #[tactic(auto, using(std::proofs::lemmas::Bool::Decides::nat_tests, line::proofs::Tables::at), unfolding(rules::specs::Definitions::Registers::reserved_bits, rules::specs::Definitions::Registers::row_at, rules::specs::Definitions::Registers::reserved_rows, line::proofs::Tables::values))]
     fn reserved_bits(address: usize) -> u8
         requires { address < 16 }
         ensures { result ≡ rule.reserved_bits address }
@@ -174,6 +178,7 @@ impl Map {
     }
 
     // Whether a host may only read the address.
+    #[tactic(auto, using(std::proofs::lemmas::Bool::Decides::nat_tests), unfolding(rules::specs::Definitions::Registers::read_only))]
     pub fn read_only(address: usize) -> bool
         ensures { result ≡ rule.read_only address }
     {
@@ -182,6 +187,7 @@ impl Map {
     }
 
     // Whether a host may only write the address.
+    #[tactic(auto, using(std::proofs::lemmas::Bool::Decides::nat_tests), unfolding(rules::specs::Definitions::Registers::write_only))]
     pub fn write_only(address: usize) -> bool
         ensures { result ≡ rule.write_only address }
     {
@@ -189,6 +195,7 @@ impl Map {
     }
 
     // Whether a host may neither read nor write the address.
+    #[tactic(auto, using(std::proofs::lemmas::Bool::Decides::nat_tests), unfolding(rules::specs::Definitions::Registers::reserved))]
     pub fn reserved(address: usize) -> bool
         ensures { result ≡ rule.reserved address }
     {
@@ -197,6 +204,7 @@ impl Map {
     }
 
     // Whether the reserved bits of 0x01 (version 001) and of 0x03 (zeros) are as they must be. The others are kept as written (house).
+    #[tactic(auto, using(std::proofs::lemmas::Bool::Decides::nat_tests), unfolding(rules::specs::Definitions::Registers::fixed_bits))]
     pub fn fixed_bits(address: usize, value: u8) -> bool
         ensures { result ≡ rule.fixed_bits address value }
     {
@@ -210,6 +218,7 @@ impl Map {
     }
 
     // 0x00: IVRX.
+    #[tactic(auto, using(std::proofs::lemmas::Bool::Decides::nat_tests, rules::proofs::Bits::masked), unfolding(rules::specs::Definitions::Registers::inverts_receive))]
     fn inverts_receive(control: u8) -> bool
         ensures { result ≡ rule.inverts_receive control }
     {
@@ -217,6 +226,7 @@ impl Map {
     }
 
     // 0x00: IVTX.
+    #[tactic(auto, using(std::proofs::lemmas::Bool::Decides::nat_tests, rules::proofs::Bits::masked), unfolding(rules::specs::Definitions::Registers::inverts_transmit))]
     fn inverts_transmit(control: u8) -> bool
         ensures { result ≡ rule.inverts_transmit control }
     {
@@ -224,6 +234,7 @@ impl Map {
     }
 
     // 0x01: the retry setting MR.
+    #[tactic(auto, using(std::proofs::lemmas::Bool::Decides::nat_tests), unfolding(rules::specs::Definitions::Registers::retry_setting))]
     pub fn retry_setting(control: u8) -> u8
         ensures { result ≡ rule.retry_setting control }
     {
@@ -231,6 +242,7 @@ impl Map {
     }
 
     // 0x01: the module type MT; an autonomous module may send a start sequence.
+    #[tactic(auto, using(std::proofs::lemmas::Bool::Decides::nat_tests, rules::proofs::Bits::masked), unfolding(rules::specs::Definitions::Registers::autonomous))]
     pub fn autonomous(control: u8) -> bool
         ensures { result ≡ rule.autonomous control }
     {
@@ -238,6 +250,7 @@ impl Map {
     }
 
     // 0x02: SDC[3:0].
+    #[tactic(auto, using(std::proofs::lemmas::Bool::Decides::nat_tests), unfolding(diagnosis::specs::Control::rate))]
     pub fn rate(control: u8) -> u8
         ensures { result ≡ diagnosis.rate control }
     {
@@ -245,6 +258,7 @@ impl Map {
     }
 
     // 0x02: the slots of an SDC period.
+    #[tactic(auto, using(std::proofs::lemmas::Bool::Decides::nat_tests, crate::proofs::Dividers::shifted), unfolding(diagnosis::specs::Control::divider, diagnosis::specs::Control::rate))]
     pub fn divider(control: u8) -> u32
         ensures { result ≡ diagnosis.divider control }
     {
@@ -252,6 +266,7 @@ impl Map {
     }
 
     // 0x02: Ma and Mb, bits 3 and 2.
+    #[tactic(auto, using(std::proofs::lemmas::Bool::Decides::nat_tests), unfolding(diagnosis::specs::Control::selection))]
     pub fn selection(control: u8) -> u8
         ensures { result ≡ diagnosis.selection control }
     {
@@ -259,6 +274,7 @@ impl Map {
     }
 
     // 0x02: Ma and Mb 11.
+    #[tactic(auto, using(std::proofs::lemmas::Bool::Decides::nat_tests), unfolding(diagnosis::specs::Control::automatic))]
     pub fn automatic(control: u8) -> bool
         ensures { result ≡ diagnosis.automatic control }
     {
@@ -266,6 +282,7 @@ impl Map {
     }
 
     // 0x02: ETIP.
+    #[tactic(auto, using(std::proofs::lemmas::Bool::Decides::nat_tests, rules::proofs::Bits::masked), unfolding(diagnosis::specs::Control::compares_transmission))]
     pub fn compares_transmission(control: u8) -> bool
         ensures { result ≡ diagnosis.compares_transmission control }
     {
@@ -273,6 +290,7 @@ impl Map {
     }
 
     // 0x02: ESDC.
+    #[tactic(auto, using(std::proofs::lemmas::Bool::Decides::nat_tests, rules::proofs::Bits::masked), unfolding(diagnosis::specs::Control::divider_runs))]
     pub fn divider_runs(control: u8) -> bool
         ensures { result ≡ diagnosis.divider_runs control }
     {
@@ -280,6 +298,7 @@ impl Map {
     }
 
     // 0x03: GRES, SLEEP, IDLE, ACTI, REAR, MSDC.
+    #[tactic(auto, using(std::proofs::lemmas::Bool::Decides::nat_tests, rules::proofs::Bits::masked), unfolding(crate::specs::Command::asked, rules::specs::Definitions::Registers::asks_reset, rules::specs::Definitions::Registers::asks_sleep, rules::specs::Definitions::Registers::asks_idle, rules::specs::Definitions::Registers::asks_activation, rules::specs::Definitions::Registers::asks_rearbitration, rules::specs::Definitions::Registers::asks_pulse))]
     pub fn asked(command: u8) -> Command
         ensures { result ≡ map.asked command }
     {
@@ -294,6 +313,7 @@ impl Map {
     }
 
     // Reset of the registers in the memory map; channels and mailbox stay.
+    #[tactic(auto, using(std::proofs::lemmas::Bool::Decides::nat_tests), unfolding(rules::specs::Definitions::Mailbox::reset_memory, rules::specs::Definitions::Mailbox::rows_written, rules::specs::Definitions::Registers::reset_values, rules::specs::Definitions::Registers::read_only, rules::specs::Definitions::Registers::reset_value, rules::specs::Definitions::Registers::row_at))]
     pub fn reset_memory(m: [u8; 256]) -> [u8; 256]
         ensures { result ≡ memory.reset_memory m }
     {
@@ -306,6 +326,7 @@ impl Map {
     }
 
     // Reset of the registers that the controller writes.
+    #[tactic(auto, using(std::proofs::lemmas::Bool::Decides::nat_tests), unfolding(rules::specs::Definitions::Registers::reset_report))]
     pub fn reset_report() -> Report
         ensures { result ≡ rule.reset_report }
     {
@@ -371,7 +392,7 @@ const RESERVED_BITS: [u8; 16] = [
 ];
 
 // The codes of the last error, 0x07.
-#[derive(Drop)]
+#[derive(Clone, Copy)]
 pub struct Code {}
 
 impl Code {
@@ -389,6 +410,7 @@ impl Code {
 // ---- levels
 
 // The level of an input among RxD0 + 2 RxD1 + 4 RxD2.
+#[tactic(auto, using(std::proofs::lemmas::Bool::Decides::nat_tests), unfolding(diagnosis::specs::Rules::input_level))]
 pub fn input_level(levels: u8, input: u8) -> u8
     ensures { result ≡ wires.input_level levels input }
 {
@@ -402,6 +424,7 @@ pub fn input_level(levels: u8, input: u8) -> u8
 }
 
 // A level, inverted or not.
+#[tactic(auto, using(std::proofs::lemmas::Bool::Decides::nat_tests), unfolding(rules::specs::Definitions::Registers::inverted))]
 fn inverted(level: u8, inverts: bool) -> u8
     ensures { result ≡ rule.inverted level inverts }
 {
@@ -412,6 +435,7 @@ fn inverted(level: u8, inverts: bool) -> u8
 }
 
 // The levels of the three inputs of a slot after the receive inversion.
+#[tactic(auto, using(std::proofs::lemmas::Bool::Decides::nat_tests), unfolding(rules::specs::Definitions::Registers::received))]
 pub fn received(control: u8, levels: u16) -> u8
     ensures { result ≡ rule.received control levels }
 {
@@ -422,6 +446,7 @@ pub fn received(control: u8, levels: u16) -> u8
 }
 
 // TXD: the level after the transmit inversion.
+#[tactic(auto, using(std::proofs::lemmas::Bool::Decides::nat_tests), unfolding(rules::specs::Definitions::Registers::transmitted))]
 pub fn transmitted(control: u8, level: u8) -> u8
     ensures { result ≡ rule.transmitted control level }
 {

@@ -1,4 +1,6 @@
 // What a sample, the choice, the end of a service and that of a reply do to 0x05, 0x06, 0x07 and 0x09 (01, Receiving and Sending; 02, Req 01).
+#![tactic(auto)]
+
 ghost use Rattle.std.specs.Prelude.{◌≡◌, true};
 ghost use Rattle.rules.specs.Definitions.Delivery as delivery;
 ghost use Rattle.rules.specs.Definitions.Service as rule;
@@ -11,6 +13,7 @@ use rules::{Delivery, Ending, Flags, Hearing, Reception, Report, Retries, Servic
 // ---- 0x07, and a frame of another module
 
 // Each error replaces 0x07 (house).
+#[tactic(auto, using(std::proofs::lemmas::Bool::Decides::nat_tests))]
 fn with_error(x: Report, code: u8) -> Report
     ensures { result ≡ setter.with_error x code }
 {
@@ -20,6 +23,7 @@ fn with_error(x: Report, code: u8) -> Report
 }
 
 // RE.
+#[tactic(auto, using(std::proofs::lemmas::Bool::Decides::nat_tests), unfolding(rules::specs::Definitions::Delivery::receive_error))]
 fn receive_error(x: Report) -> Report
     ensures { result ≡ delivery.receive_error x }
 {
@@ -29,6 +33,7 @@ fn receive_error(x: Report) -> Report
 }
 
 // ROK if RAK is 1, else RNOK; 0x06 shows the channel, retries 0.
+#[tactic(auto, using(std::proofs::lemmas::Bool::Decides::nat_tests), unfolding(rules::specs::Definitions::Delivery::report_stored))]
 fn report_stored(x: Report, asked: bool, channel: u8) -> Report
     ensures { result ≡ delivery.report_stored x asked channel }
 {
@@ -44,6 +49,7 @@ fn report_stored(x: Report, asked: bool, channel: u8) -> Report
 }
 
 // A fault's code goes to 0x07, matched or not.
+#[tactic(auto, using(std::proofs::lemmas::Bool::Decides::nat_tests), unfolding(rules::specs::Definitions::Delivery::report_heard))]
 fn report_heard(h: Hearing, x: Report) -> Report
     ensures { result ≡ delivery.report_heard h x }
 {
@@ -56,6 +62,7 @@ fn report_heard(h: Hearing, x: Report) -> Report
 }
 
 // ROK or RNOK for a frame stored; RE for an error, with BOV where the frame did not fit.
+#[tactic(auto, using(std::proofs::lemmas::Bool::Decides::nat_tests), unfolding(rules::specs::Definitions::Delivery::report_delivered))]
 fn report_delivered(d: Delivery, x: Report, r: Reception) -> Report
     ensures { result ≡ delivery.report_delivered d x r }
 {
@@ -72,6 +79,7 @@ fn report_delivered(d: Delivery, x: Report, r: Reception) -> Report
 // ---- a service
 
 // Retry fields show the smaller of errors and R.
+#[tactic(auto, using(std::proofs::lemmas::Bool::Decides::nat_tests), unfolding(rules::specs::Definitions::Service::retries_of))]
 fn retries_of(s: Service) -> Retries
     ensures { result ≡ rule.retries_of s }
 {
@@ -90,6 +98,7 @@ fn retries_of(s: Service) -> Retries
 }
 
 // 0x05, at the choice and at each error.
+#[tactic(auto, using(std::proofs::lemmas::Bool::Decides::nat_tests), unfolding(rules::specs::Definitions::Service::report_sending))]
 pub fn report_sending(x: Report, s: Service) -> Report
     ensures { result ≡ rule.report_sending x s }
 {
@@ -99,6 +108,7 @@ pub fn report_sending(x: Report, s: Service) -> Report
 }
 
 // 0x07 and 0x05 after an error in a sample; s is the service with its error counted.
+#[tactic(auto, using(std::proofs::lemmas::Bool::Decides::nat_tests), unfolding(rules::specs::Definitions::Service::report_judged))]
 fn report_judged(w: Verdict, x: Report, s: Service) -> Report
     ensures { result ≡ rule.report_judged w x s }
 {
@@ -112,6 +122,7 @@ fn report_judged(w: Verdict, x: Report, s: Service) -> Report
     }
 }
 
+#[tactic(auto, using(std::proofs::lemmas::Bool::Decides::nat_tests))]
 fn raise_te(f: Flags) -> Flags
     ensures { result ≡ setter.with_te f true }
 {
@@ -120,6 +131,7 @@ fn raise_te(f: Flags) -> Flags
     t
 }
 
+#[tactic(auto, using(std::proofs::lemmas::Bool::Decides::nat_tests))]
 fn raise_tok(f: Flags) -> Flags
     ensures { result ≡ setter.with_tok f true }
 {
@@ -129,6 +141,7 @@ fn raise_tok(f: Flags) -> Flags
 }
 
 // 0x06 and 0x09.
+#[tactic(auto, using(std::proofs::lemmas::Bool::Decides::nat_tests), unfolding(rules::specs::Definitions::Service::retries_of))]
 fn report_message(x: Report, s: Service, f: Flags) -> Report
     ensures { result ≡ setter.with_flags (setter.with_message x (rule.retries_of s)) f }
 {
@@ -139,6 +152,7 @@ fn report_message(x: Report, s: Service, f: Flags) -> Report
 }
 
 // 0x06 is written on success and exhaustion; abort and REAR leave the registers.
+#[tactic(auto, using(std::proofs::lemmas::Bool::Decides::nat_tests), unfolding(rules::specs::Definitions::Service::report_ended))]
 pub fn report_ended(e: Ending, x: Report, s: Service) -> Report
     ensures { result ≡ rule.report_ended e x s }
 {
@@ -153,6 +167,7 @@ pub fn report_ended(e: Ending, x: Report, s: Service) -> Report
 }
 
 // TOK, and 0x06 with retries 0.
+#[tactic(auto, using(std::proofs::lemmas::Bool::Decides::nat_tests), unfolding(rules::specs::Definitions::Service::report_replied))]
 fn reply_sent(x: Report, c: u8) -> Report
     ensures { result ≡ rule.report_replied verdicts.Done x c }
 {
@@ -164,6 +179,7 @@ fn reply_sent(x: Report, c: u8) -> Report
 }
 
 // What a sample of an immediate reply does: success, or RE.
+#[tactic(auto, using(std::proofs::lemmas::Bool::Decides::nat_tests), unfolding(rules::specs::Definitions::Service::report_replied, rules::specs::Definitions::Delivery::receive_error))]
 pub fn report_reply(q: Verdict, report: Report, c: u8) -> Report
     ensures { result ≡ rule.report_replied q report c }
 {
@@ -180,6 +196,7 @@ pub fn report_reply(q: Verdict, report: Report, c: u8) -> Report
 // ---- the sample
 
 // 0x07, then what the frame did, then 0x05 at an error, then the end of the service; s has the sample counted.
+#[tactic(auto, using(std::proofs::lemmas::Bool::Decides::nat_tests))]
 pub fn report_after(
     x: Report,
     w: Verdict,

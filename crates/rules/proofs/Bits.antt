@@ -2,7 +2,7 @@
 --   and_bit == bit by bit        no_bits, some-bit == a number is zero exactly if it has no one
 --   masked == `v & mask` is not zero exactly if the mask's bit is one        or-mask == `v | mask` sets it
 use Prim.Native.Nat.{ℕ, zero, suc, ◌+◌, ◌-◌, ◌*◌, ◌/◌, ◌%◌, ◌^◌, ◌<◌, min, max}
-use mathlib.Core.Bool.{Bool, true, false, not}
+use mathlib.Core.Bool.{not}
 use mathlib.Core.Path.{◌≡◌, refl, ap, ap₂, sym, ◌∙◌}
 use native.Mathlib.Nat.{zero-div, min-le_left, pow-succ', div-div-eq-div-mul, mod-lt}
 use native.Mathlib.Omega.{arith}

@@ -1,4 +1,6 @@
 // The controller's state and answers: what the definitions in specs/ speak of; and the claims on them that have short proofs.
+#![tactic(auto)]
+
 ghost use Rattle.rules.specs.Statements.Claims as claims;
 
 use diagnosis::Diagnosis;
@@ -6,7 +8,7 @@ use diagnosis::Diagnosis;
 // ---- registers (01, Memory map)
 
 // Interrupt status, 0x09.
-#[derive(Drop)]
+#[derive(Clone, Copy)]
 pub struct Flags {
     pub rst: bool,
     pub te: bool,
@@ -17,14 +19,14 @@ pub struct Flags {
 }
 
 // Retries and channel, 0x05 and 0x06.
-#[derive(Drop)]
+#[derive(Clone, Copy)]
 pub struct Retries {
     pub count: u8,
     pub channel: u8,
 }
 
 // The registers that the controller itself writes: 0x05, 0x06, 0x07, 0x09.
-#[derive(Drop)]
+#[derive(Clone, Copy)]
 pub struct Report {
     pub sending: Retries,
     pub message: Retries,
@@ -35,7 +37,7 @@ pub struct Report {
 // ---- channels (01, Memory map and Receiving)
 
 // The bytes of a channel that mean something: +0, +1, +2, +3, +6, +7.
-#[derive(Drop)]
+#[derive(Clone, Copy)]
 pub struct Channel {
     pub high: u8,
     pub low: u8,
@@ -46,7 +48,7 @@ pub struct Channel {
 }
 
 // The pointer and the length M_L that a channel uses, its link resolved.
-#[derive(Drop)]
+#[derive(Clone, Copy)]
 pub struct Buffer {
     pub legal: bool,
     pub pointer: u8,
@@ -54,7 +56,7 @@ pub struct Buffer {
 }
 
 // Who takes a frame: held from the last command slot on.
-#[derive(Drop)]
+#[derive(Clone, Copy)]
 pub struct Winner {
     pub matched: bool,
     pub channel: u8,
@@ -63,7 +65,7 @@ pub struct Winner {
     pub length: u8,
 }
 
-#[derive(Drop)]
+#[derive(Clone, Copy)]
 pub enum Choice {
     Nothing,
     Lowest(u8),
@@ -72,13 +74,13 @@ pub enum Choice {
 // ---- the line and the frame under way (01, Receiving and Sending)
 
 // Recessive slots in a row, and whether a good frame came last.
-#[derive(Drop)]
+#[derive(Clone, Copy)]
 pub struct Line {
     pub good: bool,
     pub count: u8,
 }
 
-#[derive(Drop)]
+#[derive(Clone, Copy)]
 pub enum Phase {
     Quiet,
     Start,
@@ -88,14 +90,14 @@ pub enum Phase {
 }
 
 // The phase of the frame under way and the slot in it that the next sample is.
-#[derive(Drop)]
+#[derive(Clone, Copy)]
 pub struct Place {
     pub phase: Phase,
     pub at: u8,
 }
 
 // The frame under way: whole nibbles taken, bits of the nibble under way, all nibbles as bytes, who takes it.
-#[derive(Drop)]
+#[derive(Clone, Copy)]
 pub struct Reception {
     pub place: Place,
     pub nibbles: u8,
@@ -105,7 +107,7 @@ pub struct Reception {
 }
 
 // What a sample is for the line and the frame under way.
-#[derive(Drop)]
+#[derive(Clone, Copy)]
 pub enum Hearing {
     Silent,
     Follows,
@@ -114,7 +116,7 @@ pub enum Hearing {
 }
 
 // What a frame of another module does to the channel that takes it.
-#[derive(Drop)]
+#[derive(Clone, Copy)]
 pub enum Delivery {
     Nothing,
     Stored,
@@ -125,14 +127,14 @@ pub enum Delivery {
 // ---- sending (01, Sending)
 
 // Slots and attempts are counted apart and never added.
-#[derive(Drop)]
+#[derive(Clone, Copy)]
 pub struct Timeslots(pub u32);
 
-#[derive(Drop)]
+#[derive(Clone, Copy)]
 pub struct Attempts(pub u32);
 
 // A frame to be sent: n data bytes, and identifier, command, data and check as bytes, with a zero bit behind the check.
-#[derive(Drop)]
+#[derive(Clone, Copy)]
 pub struct Coded {
     pub n: u8,
     pub bytes: [u8; line::CODED_BYTES],
@@ -140,7 +142,7 @@ pub struct Coded {
 
 // Resting: no service. Waiting: between attempts. Opening: a first level answered and not sampled. Sending: in an attempt.
 // Receiving: in an attempt whose request another module answers, so that it goes on as a reception.
-#[derive(Drop)]
+#[derive(Clone, Copy)]
 pub enum Stage {
     Resting,
     Waiting,
@@ -150,13 +152,13 @@ pub enum Stage {
 }
 
 // The stage, and the slot of the frame that is driven next.
-#[derive(Drop)]
+#[derive(Clone, Copy)]
 pub struct Progress {
     pub stage: Stage,
     pub at: u16,
 }
 
-#[derive(Drop)]
+#[derive(Clone, Copy)]
 pub struct Counters {
     pub slots: Timeslots,
     pub lost: Attempts,
@@ -164,7 +166,7 @@ pub struct Counters {
 }
 
 // What a service has to send, and what it has spent.
-#[derive(Drop)]
+#[derive(Clone, Copy)]
 pub struct Effort {
     pub frame: Coded,
     pub setting: u8,
@@ -172,7 +174,7 @@ pub struct Effort {
     pub counters: Counters,
 }
 
-#[derive(Drop)]
+#[derive(Clone, Copy)]
 pub struct Service {
     pub channel: u8,
     pub abort: bool,
@@ -181,7 +183,7 @@ pub struct Service {
 }
 
 // What a sample is for the attempt, or for the immediate reply, under way.
-#[derive(Drop)]
+#[derive(Clone, Copy)]
 pub enum Verdict {
     Unjudged,
     Goes,
@@ -192,7 +194,7 @@ pub enum Verdict {
 }
 
 // How a service ends, if it does.
-#[derive(Drop)]
+#[derive(Clone, Copy)]
 pub enum Ending {
     Going,
     Sent,
@@ -203,7 +205,7 @@ pub enum Ending {
 }
 
 // An immediate reply: whether one is under way, its channel, its frame and the slot of it that is driven next.
-#[derive(Drop)]
+#[derive(Clone, Copy)]
 pub struct ImmediateReply {
     pub going: bool,
     pub channel: u8,
@@ -212,7 +214,7 @@ pub struct ImmediateReply {
 }
 
 // What the model is in the frame under way.
-#[derive(Drop)]
+#[derive(Clone, Copy)]
 pub enum Role {
     Nobody,
     Receiver,
@@ -223,7 +225,7 @@ pub enum Role {
 
 // ---- the controller
 
-#[derive(Drop)]
+#[derive(Clone, Copy)]
 pub enum Mode {
     Idle,
     Active,
@@ -231,14 +233,14 @@ pub enum Mode {
 }
 
 // The mode, and whether an idle waits for the service to end.
-#[derive(Drop)]
+#[derive(Clone, Copy)]
 pub struct Activity {
     pub mode: Mode,
     pub waiting: bool,
 }
 
 // The state but for the memory map.
-#[derive(Drop)]
+#[derive(Clone, Copy)]
 pub struct Core {
     pub activity: Activity,
     pub report: Report,
@@ -249,14 +251,14 @@ pub struct Core {
     pub diagnosis: Diagnosis,
 }
 
-#[derive(Drop)]
+#[derive(Clone, Copy)]
 pub struct Controller {
     pub memory: [u8; 256],
     pub core: Core,
 }
 
 // The refusal's number or 0; the byte read, the level of TXD or 0; the next controller.
-#[derive(Drop)]
+#[derive(Clone, Copy)]
 pub struct Answer {
     pub refused: u8,
     pub value: u8,
@@ -264,7 +266,7 @@ pub struct Answer {
 }
 
 // Why an event is refused (01, Numbers refused).
-#[derive(Drop)]
+#[derive(Clone, Copy)]
 pub enum Refusal {
     Address,
     Value,
@@ -277,28 +279,28 @@ pub enum Refusal {
 }
 
 // The byte read, the level of TXD or 0; or why not.
-#[derive(Drop)]
+#[derive(Clone, Copy)]
 pub enum Reply {
     Accepted(u8),
     Refused(Refusal),
 }
 
 // What a call answers, and the controller that it leaves.
-#[derive(Drop)]
+#[derive(Clone, Copy)]
 pub struct Outcome {
     pub reply: Reply,
     pub next: Controller,
 }
 
 // The same where the memory map is lent.
-#[derive(Drop)]
+#[derive(Clone, Copy)]
 pub struct CoreOutcome {
     pub reply: Reply,
     pub next: Core,
 }
 
 // Pin reset; host write of an address and a value; host read of an address; a slot with the levels of the three inputs.
-#[derive(Drop)]
+#[derive(Clone, Copy)]
 pub enum Event {
     Reset,
     Write(u16, u16),

@@ -1,11 +1,11 @@
 -- What the LEB128 reader's answer on a part says of the number at a place.
-use Prim.Native.Nat.{ℕ, zero, suc, ◌+◌, ◌-◌, ◌<◌, ◌≤◌, min}
-use mathlib.Core.List.{List, [], ◌∷◌}
+use Prim.Native.Nat.{ℕ, ◌+◌, ◌-◌, ◌<◌, ◌≤◌, min}
+use mathlib.Core.List.{List}
 use mathlib.Core.Path.{◌≡◌, refl, ap, sym, ◌∙◌}
 use native.Mathlib.Omega.{arith}
 use lib.Dec.{eqb}
 use borrow.Author.Tests.{lt-ltb}
-use lib.ListN.{length, get_or, drop, take, length-drop, drop_of_length-le}
+use lib.ListN.{length, get_or, drop, take, drop_of_length-le}
 use lib.Seq.{drop-cons}
 use Rattle.leb128.specs.Leb128 as leb128
 use Rattle.leb128.specs.Leb128.{pick, Parsed, Refusal, decode, groups, rest_of, value_of, fault_of, looked_of, refusal_number}
@@ -13,7 +13,6 @@ use Rattle.leb128.proofs.GroupLaws.{is_value, to_end}
 use Rattle.leb128.proofs.Laws.{Answer}
 use Rattle.session.proofs.Form.{looked_within}
 use Rattle.session.specs.declared.Fault.TheVariants.{Cut}
-use Rattle.session.specs.declared.Varint.{Varint}
 use Rattle.session.specs.declared.Varint.TheVariants.{Value, Bad}
 use Rattle.session.specs.Reading.{refusal, placed, varint_at}
 

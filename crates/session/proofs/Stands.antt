@@ -11,8 +11,6 @@ use lib.Seq.{drop-append-le}
 use Rattle.leb128.specs.Leb128 as leb128
 use Rattle.leb128.specs.Leb128.{pick, Bytes, decode}
 use Rattle.leb128.proofs.GroupLaws.{followed, decode_followed}
-use Rattle.session.specs.declared.Fault.{Fault}
-use Rattle.session.specs.declared.Fault.TheVariants.{Cut, LeftOver}
 use Rattle.session.specs.declared.Varint.{Varint}
 use Rattle.session.specs.declared.Varint.TheVariants.{Value, Bad as BadVarint}
 use Rattle.session.specs.declared.Header.{Header}
@@ -20,8 +18,7 @@ use Rattle.session.specs.declared.Header.TheVariants.{Good, Bad as Bad_header}
 use Rattle.session.specs.declared.Item.{Item}
 use Rattle.session.specs.declared.Item.TheVariants.{Next, Bad as Bad_item}
 use Rattle.session.specs.declared.End.{End}
-use Rattle.session.specs.declared.End.TheVariants.{Clean, Bad as Bad_end}
-use Rattle.session.specs.Reading.{refusal, placed, varint_at, counted, versioned, header_at, valued, operands, kinded, event_at, end_at, Events, follow, events_at, Reading, NoHeader, Counted, started, session}
+use Rattle.session.specs.Reading.{refusal, placed, varint_at, counted, versioned, header_at, valued, operands, kinded, event_at, end_at, Events, follow, events_at, Counted, started, session}
 use Rattle.session.specs.Claims.{NotCut, EndStands, Settled}
 use Rattle.session.proofs.Form.{within, VarintIs, varint_is, HeaderIs, header_is, ItemIs, event_is}
 

@@ -1,10 +1,12 @@
 // Reads a session: what stands at a place of lent bytes (01, Session and listing).
+#![tactic(auto)]
+
 ghost use Rattle.std.specs.Prelude.{◌≡◌};
 ghost use Rattle.session.specs.Reading as rule;
 ghost use Rattle.session.specs.Cases.{Cases};
 
 // Why a session is refused.
-#[derive(Drop)]
+#[derive(Clone, Copy)]
 pub enum Fault {
     Cut,
     NotShortest,
@@ -16,7 +18,7 @@ pub enum Fault {
 }
 
 // An event with its numbers: pin reset; address and value; address; levels; a mark.
-#[derive(Drop)]
+#[derive(Clone, Copy)]
 pub enum Event {
     Reset,
     Write(u16, u16),
@@ -27,26 +29,26 @@ pub enum Event {
 
 // In each of these: what was read, with the place after it; or the fault, its place, and how many bytes of its number were looked at (02, Req 02).
 // A varint is a number in LEB128; its last part is how many bytes it used.
-#[derive(Drop)]
+#[derive(Clone, Copy)]
 pub enum Varint {
     Value(u16, usize, usize),
     Bad(Fault, usize, usize),
 }
 
-#[derive(Drop)]
+#[derive(Clone, Copy)]
 pub enum Header {
     Good(u16, usize),
     Bad(Fault, usize, usize),
 }
 
-#[derive(Drop)]
+#[derive(Clone, Copy)]
 pub enum Item {
     Next(Event, usize),
     Bad(Fault, usize, usize),
 }
 
 // How the reading ended once every event was read.
-#[derive(Drop)]
+#[derive(Clone, Copy)]
 pub enum End {
     Clean,
     Bad(Fault, usize, usize),
@@ -56,6 +58,7 @@ pub enum End {
 const MOST_EVENTS: u16 = 4096;
 
 // The number of a fault.
+#[tactic(auto, using(std::proofs::lemmas::Bool::Decides::nat_tests), unfolding(crate::specs::Reading::fault_number))]
 pub fn fault_number(f: Fault) -> u8
     ensures { result ≡ rule.fault_number f }
 {
@@ -71,6 +74,7 @@ pub fn fault_number(f: Fault) -> u8
 }
 
 // The number at a place; a number of one group needs no reader. A place past the end is the end.
+#[tactic(auto, using(std::proofs::lemmas::Bool::Decides::nat_tests, crate::proofs::Laws::past_end, crate::proofs::Laws::one_group, crate::proofs::Laws::next_within, crate::proofs::Laws::found, crate::proofs::Laws::refused, crate::proofs::Laws::refusal_of), unfolding(crate::specs::Reading::refusal))]
 fn varint_at(s: &[u8], at: usize) -> Varint
     ensures { result ≡ rule.varint_at s.now at }
 {
@@ -94,6 +98,7 @@ fn varint_at(s: &[u8], at: usize) -> Varint
 }
 
 // The header at a place: version and count.
+#[tactic(auto, using(std::proofs::lemmas::Bool::Decides::nat_tests), unfolding(crate::specs::Reading::header_at, crate::specs::Reading::versioned))]
 pub fn header_at(s: &[u8], at: usize) -> Header
     ensures { result ≡ rule.header_at rule.most_events s.now at }
 {
@@ -109,6 +114,7 @@ pub fn header_at(s: &[u8], at: usize) -> Header
     }
 }
 
+#[tactic(auto, using(std::proofs::lemmas::Bool::Decides::nat_tests), unfolding(crate::specs::Reading::counted))]
 fn count_at(s: &[u8], at: usize) -> Header
     ensures { result ≡ rule.counted rule.most_events at (rule.varint_at s.now at) }
 {
@@ -125,6 +131,7 @@ fn count_at(s: &[u8], at: usize) -> Header
 }
 
 // The event at a place.
+#[tactic(auto, using(std::proofs::lemmas::Bool::Decides::nat_tests), unfolding(crate::specs::Reading::event_at, crate::specs::Reading::kinded))]
 pub fn event_at(s: &[u8], at: usize) -> Item
     ensures { result ≡ rule.event_at s.now at }
 {
@@ -135,6 +142,7 @@ pub fn event_at(s: &[u8], at: usize) -> Item
 }
 
 // The event at a place once its kind is read: its numbers follow.
+#[tactic(auto, using(std::proofs::lemmas::Bool::Decides::nat_tests), unfolding(crate::specs::Reading::kinded, crate::specs::Reading::operands))]
 fn of_kind(s: &[u8], at: usize, kind: u16, next: usize, used: usize) -> Item
     ensures { result ≡ rule.kinded s.now at (Varint.Value kind next used) }
 {
@@ -155,6 +163,7 @@ fn of_kind(s: &[u8], at: usize, kind: u16, next: usize, used: usize) -> Item
     }
 }
 
+#[tactic(auto, using(std::proofs::lemmas::Bool::Decides::nat_tests), unfolding(crate::specs::Reading::valued))]
 fn value_at(s: &[u8], address: u16, at: usize) -> Item
     ensures { result ≡ rule.valued address (rule.varint_at s.now at) }
 {
@@ -165,6 +174,7 @@ fn value_at(s: &[u8], address: u16, at: usize) -> Item
 }
 
 // What follows the last event.
+#[tactic(auto, using(std::proofs::lemmas::Bool::Decides::nat_tests), unfolding(crate::specs::Reading::end_at))]
 pub fn end_at(s: &[u8], at: usize) -> End
     ensures { result ≡ rule.end_at s.now at }
 {

@@ -1,54 +1,61 @@
 // Reads each session of standard input, a line with its name and its bytes in hexadecimal, and writes how the reading ended.
-ghost use Rattle.std.specs.Prelude.{◌≡◌, ◌≤◌, ◌<◌, length};
-ghost use Rattle.io.specs.Counts.{IsPrefixLen};
+#![tactic(auto)]
+
+ghost use Rattle.std.specs.Prelude.{◌≡◌, ◌≤◌, ◌<◌, length, take, IfOk};
 ghost use Rattle.session.specs.Reading as reading;
 ghost use Rattle.session_cases.specs.Summary as rule;
 
-use libc::STDOUT_FILENO;
 use session::{End, Fault, Header, Item};
+use std::io;
+use std::io::{Read, Write};
 
 // A whole session: its header refused; its count, all read; or the events read and the fault after them. A fault has its place and how many bytes were looked at there.
-#[derive(Drop)]
+#[derive(Clone, Copy)]
 enum Outcome {
     Refused(Fault, usize, usize),
     Whole(u16),
     Broken(u16, Fault, usize, usize),
 }
 
-fn main() {
-    let mut text = io::large_buffer();
-    let n = io::read_full(0, &mut text);
-    lines(&text[..n]);
+fn main(rt: HostRuntime) -> io::Result<()> {
+    let mut text = Vec::new(rt.alloc());
+    rt.reader().take(65536).read_to_end(&mut text)?;
+    let mut out = io::BufWriter::new(rt.alloc(), io::writer(&rt))?;
+    lines(&mut out, &text)?;
+    out.flush()
 }
 
-fn lines(text: &[u8]) {
+#[tactic(auto, using(std::proofs::lemmas::Bool::Decides::nat_tests))]
+fn lines<W: Write>(out: &mut W, text: &[u8]) -> io::Result<()> {
     let mut at = 0;
     while at < text.len() {
-        at = line(text, at);
+        at = line(out, text, at)?;
     }
+    Ok(())
 }
 
 // One line; the place after it is the answer.
-fn line(text: &[u8], at: usize) -> usize
+fn line<W: Write>(out: &mut W, text: &[u8], at: usize) -> io::Result<usize>
     requires { at < length text.now }
-    ensures { at < result }
+    ensures { IfOk result (λ next. at < next) }
 {
     let blank = find(text, at, b' ');
     let end = find(text, blank, b'\n');
-    io::write_all(STDOUT_FILENO, &text[at..blank]);
-    io::write_all(STDOUT_FILENO, b": ");
+    out.write_all(&text[at..blank])?;
+    out.write_all(b": ")?;
     if blank < end {
-        read_text(&text[blank + 1..end]);
+        read_text(out, &text[blank + 1..end])?;
     }
-    io::write_all(STDOUT_FILENO, b"\n");
+    out.write_all(b"\n")?;
     if end < text.len() {
-        end + 1
+        Ok(end + 1)
     } else {
-        text.len()
+        Ok(text.len())
     }
 }
 
 // The first place from `at` on that holds b, or the end.
+#[tactic(auto, using(std::proofs::lemmas::Bool::Decides::nat_tests))]
 fn find(text: &[u8], at: usize, b: u8) -> usize
     requires { at ≤ length text.now }
     ensures { (at ≤ result) × (result ≤ length text.now) }
@@ -63,15 +70,17 @@ fn find(text: &[u8], at: usize, b: u8) -> usize
     i
 }
 
-fn read_text(text: &[u8]) {
-    let mut space = io::buffer();
+fn read_text<W: Write>(out: &mut W, text: &[u8]) -> io::Result<()> {
+    let mut space = [0u8; 4096];
     let n = decode(text, &mut space);
-    report(&space[..n]);
+    report(out, &space[..n])
 }
 
 // The bytes of a text in hexadecimal, as many as out has room for, and how many there are.
+#[tactic(auto, using(std::proofs::lemmas::Bool::Decides::nat_tests))]
 fn decode(text: &[u8], out: &mut [u8]) -> usize
-    ensures { IsPrefixLen result out.new }
+    ensures fits { result ≤ length out.new }
+    ensures front { result ≡ length (take result out.new) }
 {
     let mut n = 0;
     let mut i = 0;
@@ -96,6 +105,7 @@ fn digit(b: u8) -> u8
 }
 
 // The whole session.
+#[tactic(auto, using(std::proofs::lemmas::Bool::Decides::nat_tests), unfolding(session::specs::Reading::session, session::specs::Reading::started, crate::specs::Summary::outcome_of))]
 fn read_all(s: &[u8]) -> Outcome
     ensures { result ≡ rule.outcome_of (reading.session reading.most_events s.now) }
 {
@@ -105,6 +115,7 @@ fn read_all(s: &[u8]) -> Outcome
     }
 }
 
+#[tactic(auto, using(std::proofs::lemmas::Bool::Decides::nat_tests, crate::proofs::Laws::after, crate::proofs::Laws::first_due, crate::proofs::Laws::stopped, crate::proofs::Laws::went_on, crate::proofs::Laws::all_read), unfolding(crate::specs::Summary::ended))]
 fn events_from(s: &[u8], count: u16, first: usize) -> Outcome
     ensures { result ≡ rule.outcome (reading.events_at count s.now first) }
 {
@@ -123,33 +134,28 @@ fn events_from(s: &[u8], count: u16, first: usize) -> Outcome
     }
 }
 
-fn report(s: &[u8]) {
+fn report<W: Write>(out: &mut W, s: &[u8]) -> io::Result<()> {
     match read_all(s) {
         Outcome::Refused(f, p, looked) => {
-            io::write_all(STDOUT_FILENO, b"header: ");
-            bad(f, p, looked);
+            out.write_all(b"header: ")?;
+            bad(out, f, p, looked)
         }
         Outcome::Broken(n, f, p, looked) => {
-            events(n);
-            bad(f, p, looked);
+            events(out, n)?;
+            bad(out, f, p, looked)
         }
         Outcome::Whole(n) => {
-            events(n);
-            io::write_all(STDOUT_FILENO, b"end");
+            events(out, n)?;
+            out.write_all(b"end")
         }
     }
 }
 
-fn events(n: u16) {
-    io::print_decimal(STDOUT_FILENO, n as u64);
-    io::write_all(STDOUT_FILENO, b" events: ");
+fn events<W: Write>(out: &mut W, n: u16) -> io::Result<()> {
+    write!(out, "{n} events: ")
 }
 
-fn bad(f: Fault, p: usize, looked: usize) {
-    io::write_all(STDOUT_FILENO, b"bad ");
-    io::print_decimal(STDOUT_FILENO, session::fault_number(f) as u64);
-    io::write_all(STDOUT_FILENO, b" at ");
-    io::print_decimal(STDOUT_FILENO, p as u64);
-    io::write_all(STDOUT_FILENO, b" after ");
-    io::print_decimal(STDOUT_FILENO, looked as u64);
+fn bad<W: Write>(out: &mut W, f: Fault, p: usize, looked: usize) -> io::Result<()> {
+    let number = session::fault_number(f);
+    write!(out, "bad {number} at {p} after {looked}")
 }

@@ -23,7 +23,7 @@ use Rattle.rules.specs.Definitions.Service.{stopped, ending_of, settled, report_
 use Rattle.rules.specs.Definitions.State.{is_active, in_mode, reset_core, slept, idle_asked, activated}
 use Rattle.rules.specs.Definitions.Slots.{role_in, reply_verdict, heard_as, heard, delivers, verdict_as, verdict, service_judged, ending, report_after, memory_judged, core_judged, sample_of, judged_slot, sampled_slot, active_slot}
 use Rattle.rules.specs.Definitions.Host.{reset_all, resets, sleeps, mode_commanded, flags_cleared, core_written, service_asked, stopped_core, byte_written, host_written}
-use Rattle.rules.specs.Definitions.Run.{fresh, accept, answered, rested_slot, step, next, after}
+use Rattle.rules.specs.Definitions.Run.{fresh, accept, answered, step, next, after}
 use Rattle.every_run.proofs.Ranges.Limits.{Fine}
 use Rattle.rules.proofs.Logic.{both_true, clash, not_true, unless_false, left}
 use Rattle.every_run.proofs.Judged as judgement
@@ -260,6 +260,8 @@ reset_raised c (Write a v) (by_command i p q) = go (step_of c (Write a v))
     go : Step c (Write a v) → (flags_of (next c (Write a v))).rst ≡ true
     go (steps.refusal n h) = clash (refused_not c none (Write a v) n h) i
     go (steps.wrote h) = ap (λ (x : Controller). (flags_of x).rst) (accepted_next c none (Write a v) 0 (host_written c a (v % 256)) h ∙ at_once) ∙ (unfold reset_all reset_core reset_report in refl)
+reset_raised c (Read _) x = elim x [ ]
+reset_raised c (Slot _) x = elim x [ ]
 
 asks_reset_lem : (a v : ℕ) → resets a (v % 256) ≡ true → (a ≡ 0x03) × (bit_at v 7 ≡ 1)
 unfolding resets
@@ -357,6 +359,9 @@ completes_raised c (Slot l) (replied s d) =
     let v : ℕ = sample_of c l in
     ap (λ (x : Controller). (flags_of x).tok) (slot_sampled c l s.taken s.active) ∙ slot_tok c v
     ∙ ap (λ (q : Verdict). pick (is_done q) true (pick (is_sent (ending_in c v)) true (flags_of c).tok)) d ∙ (unfold is_done in refl)
+completes_raised c Reset x = elim x [ ]
+completes_raised c (Write _ _) x = elim x [ ]
+completes_raised c (Read _) x = elim x [ ]
 
 completes_slot : (c : Controller) (l : ℕ) → Sampled c l → (flags_of c).tok ≡ false → (sampled_slot c (sample_of c l)).core.report.flags.tok ≡ true → Completes c (Slot l)
 completes_slot c l s e h =
@@ -397,6 +402,9 @@ exhausts_raised c (Slot l) (exhausts s d) =
     let v : ℕ = sample_of c l in
     ap (λ (x : Controller). (flags_of x).te) (slot_sampled c l s.taken s.active) ∙ slot_te c v
     ∙ ap (λ (x : Ending). pick (is_exhausted x) true (flags_of c).te) d
+exhausts_raised c Reset x = elim x [ ]
+exhausts_raised c (Write _ _) x = elim x [ ]
+exhausts_raised c (Read _) x = elim x [ ]
 
 exhausts_slot : (c : Controller) (l : ℕ) → Sampled c l → (flags_of c).te ≡ false → (sampled_slot c (sample_of c l)).core.report.flags.te ≡ true → Exhausts c (Slot l)
 exhausts_slot c l s e h =
@@ -500,11 +508,17 @@ module _ (c : Controller) (f : Fine c) where
   te_sound (Slot l) (exhausts s d) =
       let v : ℕ = sample_of c l in
       last_named l s refl (last_sound c.core.service few small (verdict_tried c.core v) (ended_so c.core (verdict_of c v) (heard_by c v) d))
+  te_sound Reset x = elim x [ ]
+  te_sound (Write _ _) x = elim x [ ]
+  te_sound (Read _) x = elim x [ ]
 
   te_complete : (e : Event) → LastError c e → Exhausts c e
   te_complete (Slot l) (last code s p e) =
       let v : ℕ = sample_of c l in
       exhausts s (judged_ending c.core v (heard_by c v) (Failed code) p (unfold is_judged in refl) ∙ last_complete c.core.service few small code e)
+  te_complete Reset x = elim x [ ]
+  te_complete (Write _ _) x = elim x [ ]
+  te_complete (Read _) x = elim x [ ]
 
 -- ---- what a frame delivers
 
@@ -591,6 +605,9 @@ spoils_raised c (Slot l) (broken code s d) =
     let v : ℕ = sample_of c l in
     ap (λ (x : Controller). (flags_of x).re) (slot_sampled c l s.taken s.active) ∙ slot_re c v
     ∙ ap (λ (q : Verdict). pick (is_failed q) true (pick (marks_cher (delivery_in c v)) true (flags_of c).re)) d ∙ (unfold is_failed in refl)
+spoils_raised c Reset x = elim x [ ]
+spoils_raised c (Write _ _) x = elim x [ ]
+spoils_raised c (Read _) x = elim x [ ]
 
 spoils_heard : (c : Controller) (l : ℕ) → Received c l → (h : Hearing) → hearing_in c l ≡ h → marks_cher (delivery_to h c.core.reception) ≡ true → Spoils c (Slot l)
 unfolding delivery_to delivered
@@ -656,6 +673,9 @@ rok_raised c (Slot l) (stores r d n q) =
     let v : ℕ = sample_of c l in
     ap (λ (x : Controller). (flags_of x).rok) (slot_sampled c l r.sampled.taken r.sampled.active) ∙ slot_rok c v
     ∙ ap (λ (y : Delivery). pick (both (is_stored y) (rak c)) true (flags_of c).rok) (stored_in c l r d n) ∙ ap (λ (b : Bool). pick b true (flags_of c).rok) q
+rok_raised c Reset x = elim x [ ]
+rok_raised c (Write _ _) x = elim x [ ]
+rok_raised c (Read _) x = elim x [ ]
 
 rnok_raised : (c : Controller) (e : Event) → Stores false c e → (flags_of (next c e)).rnok ≡ true
 unfolding asked is_stored
@@ -663,6 +683,9 @@ rnok_raised c (Slot l) (stores r d n q) =
     let v : ℕ = sample_of c l in
     ap (λ (x : Controller). (flags_of x).rnok) (slot_sampled c l r.sampled.taken r.sampled.active) ∙ slot_rnok c v
     ∙ ap (λ (y : Delivery). pick (both (is_stored y) (not (rak c))) true (flags_of c).rnok) (stored_in c l r d n) ∙ ap (λ (b : Bool). pick (not b) true (flags_of c).rnok) q
+rnok_raised c Reset x = elim x [ ]
+rnok_raised c (Write _ _) x = elim x [ ]
+rnok_raised c (Read _) x = elim x [ ]
 
 rok_by : (c : Controller) → Raised (λ f. f.rok) (Stores true) c
 unfolding reset_report asked

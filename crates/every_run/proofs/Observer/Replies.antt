@@ -265,22 +265,22 @@ replied_kind Answered c = refl
 
 pub apart_ended : (k : Core) (y : Replying) → SameReply k.reply y → drives_frame k.service.effort.progress ≡ false → is_answered k.service.effort.progress ≡ false → (v : ℕ)
     → replied_of (reply_verdict (role_in k) k v) k.reply.channel ≡ replied_apart y (drives k) v
+unfolding reply_verdict replied_of reply_of replied_apart
 apart_ended k y s d a v = go y refl
   where
     other : (u : Bool) → replied_of (reply_verdict (pick u Receiver Nobody) k v) k.reply.channel ≡ unended
-    other true = unfold reply_verdict replied_of in refl
-    other false = unfold reply_verdict replied_of in refl
+    other true = refl
+    other false = refl
 
     channel_of : (c : ℕ) (f : Frame) (levels : List ℕ) → y ≡ replies c f levels → k.reply.channel ≡ c
-    channel_of c f levels e = ap (λ (x : ImmediateReply). x.channel) (s.stands ∙ ap reply_of e) ∙ unfold reply_of in refl
+    channel_of c f levels e = ap (λ (x : ImmediateReply). x.channel) (s.stands ∙ ap reply_of e)
 
     judged_so : (c : ℕ) (f : Frame) (levels : List ℕ) → y ≡ replies c f levels → reply_verdict (role_in k) k v ≡ judge_slot (coded f) (28 + length levels) v
-    judged_so c f levels e = ap (λ (x : Role). reply_verdict x k v) (is_replier k y s d a c f levels e) ∙ unfold reply_verdict in (reply_judged k y s d a c f levels e v)
+    judged_so c f levels e = ap (λ (x : Role). reply_verdict x k v) (is_replier k y s d a c f levels e) ∙ (reply_judged k y s d a c f levels e v)
 
     go : (x : Replying) → y ≡ x → replied_of (reply_verdict (role_in k) k v) k.reply.channel ≡ replied_apart x (drives k) v
     go silent e =
-        unfold replied_apart in rw (role_other k.service.effort.progress k.reply.going k.reception.place d a (is_silent k y s d a e)) (other (under_way k.reception.place))
+        rw (role_other k.service.effort.progress k.reply.going k.reception.place d a (is_silent k y s d a e)) (other (under_way k.reception.place))
     go (replies c f levels) e =
-        unfold replied_apart in
         (ap (λ (n : ℕ). replied_of (reply_verdict (role_in k) k v) n) (channel_of c f levels e) ∙ ap (λ (w : Verdict). replied_of w c) (judged_so c f levels e) ∙ replied_kind (judge_slot (coded f) (28 + length levels) v) c
         ∙ ap (λ (w : tally.Verdict). replied_by w c) (kind_same f (28 + length levels) v) ∙ ap (λ (n : ℕ). replied_by (verdict f (28 + length levels) n v) c) (sym (reply_drives k y s d a c f levels e)))

@@ -25,7 +25,7 @@ use Rattle.rules.specs.Definitions.Service.{stopped, ending_of, settled, memory_
 use Rattle.rules.specs.Definitions.State.{is_active, serving, reset_core, idled, idle_due, slept}
 use Rattle.rules.specs.Definitions.Slots.{role_in, reply_verdict, heard_as, heard, delivers, verdict_as, verdict, service_judged, ending, reception_judged, memory_judged, reply_after, core_judged, chooses, choice_made, start_made, follows_on, drives_as, drives, sample_of, judged_slot, sampled_slot, active_slot}
 use Rattle.rules.specs.Definitions.Host.{reset_all, resets, sleeps, core_written, service_asked, stopped_core, diagnosis_written, byte_written, host_written, kept_byte}
-use Rattle.rules.specs.Definitions.Run.{fresh, answered, rested_slot, next, after}
+use Rattle.rules.specs.Definitions.Run.{fresh, next, after}
 use Rattle.every_run.specs.Tally.{none}
 use Rattle.every_run.proofs.Sending.Follow.{idle_service, follows_reception, follows_reply, stopped_service}
 use Rattle.every_run.specs.Observer.{accepted}

@@ -21,9 +21,9 @@ use Rattle.rules.specs.Definitions.Hearing.{reception_after}
 use Rattle.rules.specs.Definitions.Attempt.{no_counts, at_stage, is_serving, in_service, is_between, between_attempts, is_waiting, waits, is_driving, drives_frame, is_answering, is_answered, exhausted, advance}
 use Rattle.rules.specs.Definitions.Service.{resting, stopped, ending_of, settled, report_sending, report_ended, fulfils, no_reply, judge_reply, replied, reply_taken, chosen, choice_of, choose, opened, started, abort_asked, rear_asked, aborts, hear_own}
 use Rattle.rules.specs.Definitions.State.{is_active, in_mode, serving, reset_core, idled, idle_due, slept, idle_asked, activated}
-use Rattle.rules.specs.Definitions.Slots.{role_in, reply_verdict, heard, delivers, verdict_as, verdict, service_judged, ending, reception_judged, memory_judged, reply_after, core_judged, chooses, choice_made, start_made, follows_on, sample_of, judged_slot, sampled_slot, active_slot}
+use Rattle.rules.specs.Definitions.Slots.{role_in, reply_verdict, heard, delivers, verdict_as, verdict, service_judged, ending, reception_judged, memory_judged, reply_after, core_judged, chooses, choice_made, start_made, follows_on, sample_of, judged_slot, sampled_slot}
 use Rattle.rules.specs.Definitions.Host.{reset_all, resets, sleeps, mode_commanded, rear_commanded, flags_cleared, core_written, service_asked, stopped_core, byte_written, host_written}
-use Rattle.rules.specs.Definitions.Run.{fresh, answered, rested_slot, next, after}
+use Rattle.rules.specs.Definitions.Run.{fresh, next, after}
 use Rattle.every_run.specs.Tally.{none}
 use Rattle.rules.proofs.Logic.{both_true, clash, left}
 use Rattle.every_run.proofs.Judged.{Judged, went, lost, broke, done, slot_judged}
@@ -226,6 +226,8 @@ past_followed r v q = go r.place.phase refl q
     go End e end =
         unfold follow_in follow_end in
         picked PastIn (ltb r.place.at 7) (moved r) r (λ i. same End e end) (λ i. subst (λ (x : Phase). Past x r.nibbles) (sym e) end)
+    go Quiet e x = elim x [ ]
+    go Start e x = elim x [ ]
 
 winner_past : (m : List ℕ) (r : Reception) → PastIn r → PastIn (pick (command_ended r) (winner_taken r m) r)
 winner_past m r q = picked PastIn (command_ended r) (winner_taken r m) r (λ e. unfold winner_taken in q) (λ e. q)

@@ -8,7 +8,7 @@ use mathlib.Core.Path.{◌≡◌, refl, sym}
 use native.Mathlib.Omega.{arith}
 use borrow.Author.Tests.{leb-true, ne_eqb, eqb-true}
 use lib.Dec.{eqb, leb}
-use lib.ListN.{length, get_or, set, take, drop, replicate}
+use lib.ListN.{get_or, set, take, drop, replicate}
 use Rattle.line.specs.Bits.{pick, Below, none, one}
 use Rattle.line.specs.Frame.{Fits}
 use Rattle.line.proofs.Laws.{picked}
@@ -137,7 +137,7 @@ setting_small m b = omega (arith, at_below b transmit_control)
 pub laid_below : {m bs : List ℕ} → Below 256 m → Below 256 bs → (p k : ℕ) → Below 256 (laid_from m p k bs)
 unfolding laid_from
 laid_below b none p k = b
-laid_below b (one {x = x} h bs) p k = laid_below (set_below b (mailbox_at p k) x h) bs p (k + 1)
+laid_below {m = m} b (one {x = x} {xs = xs} h bs) p k = laid_below {m = set {A = ℕ} m (mailbox_at p k) x} (set_below b (mailbox_at p k) x h) bs p (k + 1)
 
 pub stored_below : {m bs : List ℕ} → Below 256 m → Below 256 bs → (p len n : ℕ) → Below 256 (stored m p len bs n)
 unfolding stored status_byte

@@ -14,7 +14,7 @@ use lib.Seq.{get_or-set_other}
 use Rattle.line.specs.Bits.{pick}
 use Rattle.line.proofs.Laws.{picked}
 use Rattle.diagnosis.specs.Control.{rate}
-use Rattle.diagnosis.specs.Rules.{undiagnosed, pulsed, renewed}
+use Rattle.diagnosis.specs.Rules.{pulsed, renewed}
 use Rattle.diagnosis.proofs.Limits as diagnosis
 use Rattle.diagnosis.specs.declared.Diagnosis.{Diagnosis}
 use Rattle.diagnosis.proofs.Limits.{diagnosed_limits, pulsed_limits, renewed_limits, undiagnosed_limits, rate_limits}
@@ -41,7 +41,6 @@ use Rattle.rules.specs.declared.Verdict.{Verdict}
 use Rattle.rules.specs.declared.Core.{Core}
 use Rattle.rules.specs.declared.Controller.{Controller}
 use Rattle.rules.specs.declared.Answer.{Answer}
-use Rattle.rules.specs.declared.Refusal.{Refusal}
 use Rattle.rules.specs.declared.Refusal.TheVariants.{Range, Asleep, Address}
 use Rattle.rules.specs.declared.Event.{Event}
 use Rattle.rules.specs.declared.Event.TheVariants.{Reset, Write, Read, Slot}

@@ -24,7 +24,6 @@ use Rattle.rules.specs.Definitions.Slots.{heard, drives, sample_of, active_slot}
 use Rattle.rules.specs.Definitions.Host.{reset_all, resets, sleeps, host_written}
 use Rattle.rules.specs.Definitions.Run as run
 use Rattle.rules.specs.Definitions.Run.{fresh, rested_slot, step, next}
-use Rattle.every_run.specs.Tally as tally
 use Rattle.every_run.specs.Tally.{Stand, away, between, opening, inside, answered, Tally, none, Verdict, goes, contended, failed, sent, answers, Answering, comes, taken, wasted, due_level, open_half_t, arbitrated_t, request_t, verdict, spent_t, judged_as, replied_as, counted_in, counted_t, given_up, ended_in, ended_t, chosen_t, choice_t, choose_in, choose_t, start_in, start_t, asks, asked_in, asked_t}
 use Rattle.every_run.specs.Observer.{heard_delivery, is_stored, answer_in, fulfilled_t, accepted}
 use Rattle.every_run.specs.Receiving.{Log, no_log, sampled_log, log_in, log_next}

@@ -30,7 +30,7 @@ use Rattle.rules.specs.Definitions.Longest.{longest_of}
 use Rattle.rules.specs.Definitions.Registers.{BOV, CV}
 use Rattle.rules.specs.declared.Report.{Report}
 use Rattle.rules.specs.Definitions.Slots.{role_in, heard_as, heard, service_judged, reception_judged, delivers, ending, report_after, memory_judged, core_judged, follows_on, drives_as, drives, sample_of, judged_slot, sampled_slot, active_slot, reply_verdict, verdict_as, verdict}
-use Rattle.rules.specs.Definitions.Run.{fresh, answered, next}
+use Rattle.rules.specs.Definitions.Run.{fresh, next}
 use Rattle.every_run.specs.Tally.{Tally, none}
 use Rattle.every_run.specs.Observer.{accepted}
 use Rattle.every_run.proofs.Sending.Beside.{next_t}

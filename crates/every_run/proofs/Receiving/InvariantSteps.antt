@@ -9,7 +9,7 @@ use borrow.Author.Tests.{lt-ltb, le-ltb, eqb-true, eqb-false, ltb-true, ltb-fals
 use lib.Dec.{eqb, ltb, leb}
 use lib.ListN.{length, get_or, take, replicate, replicate-append-replicate}
 use lib.Seq.{take-suc}
-use Rattle.line.specs.Bits.{pick, bits, Below}
+use Rattle.line.specs.Bits.{pick, bits}
 use Rattle.line.specs.LineCode.{line_code}
 use Rattle.line.specs.Frame.{byte_bits, carried, start, end_of_data, acknowledge_slots}
 use Rattle.line.proofs.Laws.{bits_split, code_append, picked}
@@ -18,7 +18,7 @@ use Rattle.rules.specs.Definitions.Channels.{acknowledge_asked}
 use Rattle.rules.specs.Definitions.Mailbox.{coded_bytes}
 use Rattle.rules.specs.Definitions.Reception.{at_place, moved, entered, bit_taken, with_nibble, more_nibbles, bits_laid, data_ended, nibble_taken, follow_start, follow_body, follow_acknowledge, follow_end, follow_in, followed, data_count}
 use Rattle.rules.specs.Definitions.Longest.{capacity, most_nibbles}
-use Rattle.rules.specs.Definitions.Hearing.{whole, reply_request, check_received, check_due, hear_end_of_data, hear_second_half, hear_body, hear_start, fits, acknowledges, acknowledge_wrong, hear_acknowledge, hear_end, hear_in, hear_frame}
+use Rattle.rules.specs.Definitions.Hearing.{whole, reply_request, check_received, check_due, hear_end_of_data, hear_second_half, hear_body, hear_start, acknowledges, acknowledge_wrong, hear_acknowledge, hear_end, hear_in, hear_frame}
 use Rattle.every_run.proofs.Ranges.Bytes.{zeros_below}
 use Rattle.every_run.specs.Valid.{low, owes}
 use Rattle.every_run.proofs.Receiving.Invariant.{frame_held, InStart, InBody, Carried, InAcknowledge, InEnd, InvariantIn, Invariant}

@@ -5,24 +5,22 @@ use mathlib.Core.Bool.{Bool, true, false}
 use mathlib.Core.List.{List, ◌++◌}
 use mathlib.Core.Path.{◌≡◌, refl, ap, ◌∙◌, sym}
 use native.Mathlib.Omega.{arith}
-use borrow.Author.Tests.{lt-ltb, ne_eqb, eq-eqb, ltb-true, ltb-false, eqb-true}
-use lib.Dec.{eqb, ltb}
+use borrow.Author.Tests.{lt-ltb, ne_eqb, eq-eqb, ltb-true, ltb-false}
+use lib.Dec.{ltb}
 use lib.ListN.{length, get_or, take, get_or-append}
 use Rattle.line.specs.LineCode.{line_code}
-use Rattle.line.specs.Frame.{Frame, Fits, byte_bits, start, end_of_data, acknowledge_slots, end_of_frame, carried, size}
+use Rattle.line.specs.Frame.{Frame, Fits, byte_bits, start, end_of_data, acknowledge_slots, end_of_frame, carried}
 use Rattle.line.proofs.Laws.{picked}
 use Rattle.line.proofs.Levels.{level_at_lem}
-use Rattle.line.specs.Layout.{part_of, half_of, in_five, bit_of, coded_level, level_in, level_of}
+use Rattle.line.specs.Layout.{part_of, in_five, bit_of, coded_level, level_in, level_of}
 use Rattle.line.specs.declared.Part.{Part}
-use Rattle.line.specs.declared.Half.{Half}
-use Rattle.line.specs.declared.Half.TheVariants.{Plain, First, Second}
 use Rattle.line.specs.declared.Part.TheVariants as part
 use Rattle.rules.specs.Definitions.Mailbox.{coded}
 use Rattle.rules.specs.Definitions.Longest.{capacity, most_nibbles}
 use Rattle.rules.specs.Definitions.Reception.{at_place, command_ended, moved, entered, bit_taken, more_nibbles, bits_laid, data_ended, nibble_taken, follow_start, follow_body, follow_in, followed, winner_taken}
 use Rattle.rules.specs.Definitions.Longest.{most_nibbles}
 use Rattle.rules.specs.Definitions.Hearing.{reception_after, hear_second_half, hear_body, hear_start, hear_in, hear_frame}
-use Rattle.rules.specs.Definitions.Attempt.{sent_slots, level_at, due, judge_slot}
+use Rattle.rules.specs.Definitions.Attempt.{sent_slots, level_at, due}
 use Rattle.rules.specs.Definitions.Slots.{reception_judged}
 use Rattle.every_run.proofs.Sending.Frames.{wider, level_coded}
 use Rattle.rules.specs.declared.Phase.{Phase}
@@ -30,8 +28,6 @@ use Rattle.rules.specs.declared.Phase.TheVariants.{Start, Body}
 use Rattle.rules.specs.declared.Reception.{Reception}
 use Rattle.rules.specs.declared.Hearing.TheVariants.{Follows}
 use Rattle.rules.specs.declared.Coded.{Coded}
-use Rattle.rules.specs.declared.Verdict.{Verdict}
-use Rattle.rules.specs.declared.Verdict.TheVariants.{Goes, Lost, Failed, Done}
 
 -- ---- the model's own frame, up to the end of its data
 

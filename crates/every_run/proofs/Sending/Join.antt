@@ -18,7 +18,6 @@ use Rattle.rules.specs.Definitions.Registers.{both, CV, ACKE, FCSE, command, tra
 use Rattle.rules.specs.Definitions.Channels.{acknowledge_asked, base, cher}
 use Rattle.rules.specs.Definitions.Mailbox.{asks_reply, coded, coded_bytes}
 use Rattle.rules.specs.Definitions.Reception.{free, under_way, start_ended}
-use Rattle.rules.specs.Definitions.Attempt as attempt
 use Rattle.rules.specs.Definitions.Attempt.{rtr_slot, is_request, largest, more_slots, more_attempts, no_counts, at_stage, in_service, is_serving, between_attempts, is_between, waits, is_waiting, level_at, due, open_half, arbitrated, in_check, in_acknowledge, difference_in, difference, judge_slot, slot_spent, lost_spent, error_spent, advance, exhausted}
 use Rattle.rules.specs.Definitions.Service.{resting, stopped, ending_of, settled, chosen, choice_of, opened, started, abort_asked, rear_asked, aborts}
 use Rattle.rules.specs.Definitions.Slots.{service_judged}

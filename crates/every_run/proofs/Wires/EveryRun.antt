@@ -1,5 +1,5 @@
 -- The three-wire diagnosis over every list of events.
-use Prim.Native.Nat.{ℕ, ◌%◌, ◌≤◌, ◌<◌}
+use Prim.Native.Nat.{ℕ, ◌%◌, ◌≤◌}
 use mathlib.Core.Bool.{Bool, true, false, not, false≢true}
 use mathlib.Core.List.{List, [], ◌∷◌}
 use mathlib.Core.Path.{◌≡◌, refl, sym, ap, subst, ◌∙◌}
@@ -8,25 +8,24 @@ use borrow.Author.Tests.{eqb-true, eqb-false}
 use lib.Dec.{eqb}
 use lib.ListN.{get_or}
 use Rattle.line.specs.Bits.{pick}
-use Rattle.line.proofs.Laws.{picked}
-use Rattle.diagnosis.specs.Control.{rate, divider}
+use Rattle.diagnosis.specs.Control.{rate}
 use Rattle.diagnosis.specs.Rules.{new_period, undiagnosed, pulsed, renewed, diagnosed}
 use Rattle.diagnosis.proofs.Findings.{divider_positive}
 use Rattle.diagnosis.specs.declared.Diagnosis.{Diagnosis}
 use Rattle.rules.specs.Definitions.Registers.{both, either, diagnosis_control, command, asks_pulse}
 use Rattle.rules.specs.Definitions.Channels.{base}
 use Rattle.rules.specs.Definitions.State.{is_active, is_asleep, reset_core, slept}
-use Rattle.rules.specs.Definitions.Slots.{levels_of, sample_of, ended, sampled_slot, diagnosed_slot, active_slot, resting_slot}
+use Rattle.rules.specs.Definitions.Slots.{levels_of, sample_of, ended, active_slot, resting_slot}
 use Rattle.rules.specs.Definitions.Host.{reset_all, resets, sleeps, kept_byte, diagnosis_written, byte_written, host_written}
-use Rattle.rules.specs.Definitions.Run.{fresh, accept, answered, rested_slot, step, next}
+use Rattle.rules.specs.Definitions.Run.{fresh, answered, rested_slot, next}
 use Rattle.every_run.specs.Tally.{none}
 use Rattle.every_run.specs.Observer.{accepted}
-use Rattle.every_run.specs.Wires.{Wires, new_wires, renewed_w, ticked_w, anew_by, control, watched_in, follow_w, next_w, diagnosis_of, Counts, FindsIn, DiagnosisOver, Equal, recessive, CalmSlot, Calm, Sound, NominalOver, Diagnosed}
+use Rattle.every_run.specs.Wires.{Wires, new_wires, renewed_w, ticked_w, anew_by, control, watched_in, follow_w, next_w, diagnosis_of, Counts, FindsIn, DiagnosisOver, recessive, CalmSlot, Calm, Sound, NominalOver, Diagnosed}
 use Rattle.every_run.proofs.Steps.{Step, refusal, reset, wrote, gave, went, rested, step_of, active_is, resting_is, refused_next, refused_not, accepted_next, accepted_so}
 use Rattle.every_run.proofs.Ranges.Counting.{control_slot, kept_other, kept_same, address_small}
 use Rattle.every_run.proofs.OwnFrames.EveryRun.{ended_elsewhere}
 use Rattle.every_run.proofs.Wires.Counted.{Same, same_slot, same_renewed, same_pulsed, same_rate}
-use Rattle.every_run.proofs.Wires.Found.{same_of, active_diagnosis, resting_diagnosis, slot_finds}
+use Rattle.every_run.proofs.Wires.Found.{active_diagnosis, resting_diagnosis, slot_finds}
 use Rattle.every_run.proofs.Wires.Nominal.{Calmed, calm_slot, calm_renewed, calm_pulsed}
 use Rattle.rules.specs.declared.Mode.{Mode}
 use Rattle.rules.specs.declared.Mode.TheVariants.{Idle, Active, Asleep}

@@ -1,32 +1,28 @@
 -- A wire that stands still while the other shows four edges in one period is found, and the automatic selection then listens to the other.
-use Prim.Native.Nat.{ℕ, ◌≤◌, ◌<◌, min}
+use Prim.Native.Nat.{ℕ, ◌≤◌, ◌<◌}
 use mathlib.Core.Bool.{Bool, true, false, not, false≢true}
 use mathlib.Core.Path.{◌≡◌, refl, sym, ap, subst, ◌∙◌}
 use native.Mathlib.Omega.{arith}
-use lib.ListN.{get_or}
 use Rattle.line.specs.Bits.{pick}
 use Rattle.line.proofs.Laws.{pick_same}
 use Rattle.diagnosis.specs.Control.{automatic, compares_transmission}
-use Rattle.diagnosis.specs.Rules.{input_level, automatic_input, connected, dominant_run, edges_counted, watched, found, asynchronous, condition_found, completes, returns, diagnosed}
-use Rattle.diagnosis.proofs.After as part
+use Rattle.diagnosis.specs.Rules.{input_level, automatic_input, connected, edges_counted, watched, found, asynchronous, condition_found, returns, diagnosed}
 use Rattle.diagnosis.proofs.After.{condition_after}
 use Rattle.diagnosis.proofs.Findings.{async_data, async_data_bar, found_edges, automatic_connected, no_return}
 use Rattle.diagnosis.specs.declared.Condition.{Condition}
-use Rattle.diagnosis.specs.declared.Condition.TheVariants.{Nominal, DegradedOnData, DegradedOnDataBar}
+use Rattle.diagnosis.specs.declared.Condition.TheVariants.{DegradedOnData, DegradedOnDataBar}
 use Rattle.diagnosis.specs.declared.Finding.{Finding}
 use Rattle.diagnosis.specs.declared.Finding.TheVariants.{Data, DataBar}
 use Rattle.diagnosis.specs.declared.Diagnosis.{Diagnosis}
-use Rattle.rules.specs.Definitions.Registers.{both, diagnosis_control}
+use Rattle.rules.specs.Definitions.Registers.{both}
 use Rattle.rules.specs.Definitions.State.{is_active, is_asleep}
 use Rattle.rules.specs.Definitions.Slots.{levels_of, sample_of, ended, diagnosis_after, diagnosed_slot, active_slot, resting_slot}
-use Rattle.rules.specs.Definitions.Run.{answered, rested_slot, step, next}
+use Rattle.rules.specs.Definitions.Run.{answered, rested_slot, next}
 use Rattle.every_run.specs.Tally.{none}
-use Rattle.every_run.specs.Observer.{accepted}
 use Rattle.every_run.specs.Wires.{Wires, watched_w, ends_period, control, watched_in, diagnosis_of, Counts, Alone, Degraded, Finds}
 use Rattle.every_run.proofs.Steps.{Step, refusal, went, rested, refused_not, accepted_next}
 use Rattle.every_run.proofs.Wires.Counted.{Same, completes_same, rxd1_seen, rxd2_seen, dominant_seen}
 use Rattle.rules.specs.declared.Controller.{Controller}
-use Rattle.rules.specs.declared.Event.{Event}
 use Rattle.rules.specs.declared.Event.TheVariants.{Slot}
 
 pub same_of : (c : Controller) (w : Wires) → Counts c w → Same (control c) (diagnosis_of c) w

@@ -8,7 +8,7 @@ use lib.Dec.{eqb}
 use Rattle.line.specs.Bits.{pick}
 use Rattle.line.proofs.Laws.{pick_same, picked}
 use Rattle.diagnosis.specs.Control.{divider_runs, compares_transmission}
-use Rattle.diagnosis.specs.Rules.{with_slots, new_period, input_level, differ, connected, edges_counted, watched, found, asynchronous, speaks, condition_found, condition_pulsed, renewed, pulse, turned, pulsed, completes, returns, diagnosed}
+use Rattle.diagnosis.specs.Rules.{with_slots, new_period, input_level, differ, connected, edges_counted, watched, found, speaks, condition_found, condition_pulsed, renewed, pulse, turned, pulsed, completes, returns, diagnosed}
 use Rattle.diagnosis.proofs.After.{counts, sc_after, condition_after, period_after}
 use Rattle.diagnosis.proofs.Findings.{async_equal, found_alike, pulsed_nominal}
 use Rattle.diagnosis.specs.declared.Condition.{Condition}

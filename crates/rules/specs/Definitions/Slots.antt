@@ -2,7 +2,7 @@
 -- has come due; then the choice; then a start; then the answer; then the diagnosis counts the slot's edges.
 --   role_in == what the model is in the frame under way        verdict, reply_verdict, heard, delivers, ending == what a sample is        memory_judged, core_judged == memory map and state with its effects
 --   idle_due, choice_made, start_made == what follows        drives == the level for the next slot        diagnosis_after, diagnosed_slot == the diagnosis
-use Rattle.std.specs.Prelude.{ℕ, Bool, true, false, not, List, eqb, get_or}
+use Rattle.std.specs.Prelude.{ℕ, Bool, false, not, List, eqb, get_or}
 use Rattle.line.specs.Bits.{pick}
 use Rattle.rules.specs.Definitions.Setters.{with_effort, with_report, with_line, with_reception, with_service, with_reply, with_diagnosis}
 use Rattle.rules.specs.Definitions.Longest.{longest_of}

@@ -1,0 +1,5 @@
+use Rattle.codec.proofs.Exact.{codec}
+use Rattle.codec.proofs.codec_claims.Goals as goal
+
+pub returns : goal.returns
+returns c = codec

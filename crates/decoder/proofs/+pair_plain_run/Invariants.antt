@@ -1,0 +1,10 @@
+use Prim.Native.Nat.{◌+◌, ◌*◌, ◌-◌}
+use lib.ListN.{length}
+use Rattle.decoder.proofs.+pair_plain_run.Given as goal
+
+-- the slots left
+abbrev pub decreases-pair : goal.decreases-pair
+decreases-pair l = length l.s.now - (13 + 5 * l.j)
+
+abbrev pub decreases-plain_run : goal.decreases-plain_run
+decreases-plain_run l = length l.s.now - (10 + 5 * l.j)

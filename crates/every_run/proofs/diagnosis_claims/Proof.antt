@@ -1,6 +1,0 @@
-use Rattle.every_run.proofs.Wires.EveryRun.{diagnosed_every}
-use Rattle.every_run.proofs.diagnosis_claims.Statement.{statement}
-use Rattle.every_run.proofs.diagnosis_claims.Tie as tie
-
-pub diagnosis-claims-spec : {M : Type 1} → statement M
-diagnosis-claims-spec = tie.close (tie.spec (λ c. diagnosed_every))

@@ -1,7 +1,0 @@
-use Rattle.every_run.proofs.Ranges.Reach.{refused_same, refused_value}
-use Rattle.every_run.proofs.Ranges.Counting.{never_six, never_refused_six}
-use Rattle.every_run.proofs.refusal_claims.Statement.{statement}
-use Rattle.every_run.proofs.refusal_claims.Tie as tie
-
-pub refusal-claims-spec : {M : Type 1} → statement M
-refusal-claims-spec = tie.close (tie.spec (λ c. record { same = refused_same; zero_elsewhere = refused_value; in_range_lem = never_six; never_six = never_refused_six }))

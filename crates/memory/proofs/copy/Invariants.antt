@@ -1,0 +1,16 @@
+use Prim.Native.Nat.{◌≤◌, ◌-◌, ◌+◌}
+use native.Mathlib.Nat.{sub-zero}
+use mathlib.Core.Path.{◌≡◌, sym, ◌∙◌}
+use native.Mathlib.Omega.{arith}
+use lib.Seq.{sets}
+use Rattle.rules.specs.Definitions.Mailbox.{mailbox_bytes}
+use Rattle.memory.proofs.Laying.{copy_next, copy_end}
+use Rattle.memory.proofs.copy.Given as goal
+
+abbrev pub invariant-loop-k : goal.invariant-loop-k
+invariant-loop-k l =
+    (l.k ≤ l.n) × (sets l.initial.bytes 2 (mailbox_bytes l.m l.pointer 1 l.n) ≡ sets l.bytes (l.k + 2) (mailbox_bytes l.m l.pointer (l.k + 1) (l.n - l.k)))
+
+abbrev pub decreases-loop-k : goal.decreases-loop-k
+decreases-loop-k l =
+    l.n - l.k
