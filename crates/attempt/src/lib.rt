@@ -1,4 +1,6 @@
 // An attempt to send: its judgement slot by slot, and what it spends (01, Sending; 02, Req 01).
+#![tactic(auto)]
+
 ghost use Rattle.std.specs.Prelude.{◌≡◌, ◌+◌, ◌<◌};
 ghost use Rattle.rules.specs.Definitions.Attempt as rule;
 ghost use Rattle.rules.specs.Definitions.Service as service_rule;
@@ -13,7 +15,7 @@ use rules::{
 };
 
 // What a sample is for the attempt, and its place and counts after it.
-#[derive(Drop)]
+#[derive(Clone, Copy)]
 pub struct Trial {
     pub verdict: Verdict,
     pub progress: Progress,
@@ -25,6 +27,7 @@ pub struct Trial {
 const LARGEST: u32 = 4294967295;
 
 // One slot more.
+#[tactic(auto, using(std::proofs::lemmas::Bool::Decides::nat_tests), unfolding(rules::specs::Definitions::Attempt::more_slots))]
 fn more_slots(t: Timeslots) -> Timeslots
     ensures { result ≡ rule.more_slots t }
 {
@@ -36,6 +39,7 @@ fn more_slots(t: Timeslots) -> Timeslots
 }
 
 // One attempt more.
+#[tactic(auto, using(std::proofs::lemmas::Bool::Decides::nat_tests), unfolding(rules::specs::Definitions::Attempt::more_attempts))]
 fn more_attempts(t: Attempts) -> Attempts
     ensures { result ≡ rule.more_attempts t }
 {
@@ -52,6 +56,7 @@ fn more_attempts(t: Attempts) -> Attempts
 const PRESENT: u8 = 0;
 
 // The level due where d is driven: in the second slot of the acknowledge that of a present one, where RAK asks for it.
+#[tactic(auto, using(std::proofs::lemmas::Bool::Decides::nat_tests), unfolding(crate::specs::Level::due_level))]
 fn due(n: u8, low: u8, k: u16, d: u8) -> u8
     ensures { result ≡ level.due_level n low k d }
 {
@@ -65,6 +70,7 @@ fn due(n: u8, low: u8, k: u16, d: u8) -> u8
 }
 
 // A plain bit or first half of a pair.
+#[tactic(auto, using(std::proofs::lemmas::Bool::Decides::nat_tests), unfolding(rules::specs::Definitions::Attempt::open_half))]
 fn open_half(h: Half) -> bool
     ensures { result ≡ rule.open_half h }
 {
@@ -76,6 +82,7 @@ fn open_half(h: Half) -> bool
 }
 
 // Identifier, command or data: there contention may be lost.
+#[tactic(auto, using(std::proofs::lemmas::Bool::Decides::nat_tests), unfolding(rules::specs::Definitions::Attempt::arbitrated))]
 fn arbitrated(p: Part) -> bool
     ensures { result ≡ rule.arbitrated p }
 {
@@ -93,6 +100,7 @@ fn arbitrated(p: Part) -> bool
 }
 
 // The check.
+#[tactic(auto, using(std::proofs::lemmas::Bool::Decides::nat_tests), unfolding(rules::specs::Definitions::Attempt::in_check))]
 fn in_check(p: Part) -> bool
     ensures { result ≡ rule.in_check p }
 {
@@ -110,6 +118,7 @@ fn in_check(p: Part) -> bool
 }
 
 // The acknowledge.
+#[tactic(auto, using(std::proofs::lemmas::Bool::Decides::nat_tests), unfolding(rules::specs::Definitions::Attempt::in_acknowledge))]
 fn in_acknowledge(p: Part) -> bool
     ensures { result ≡ rule.in_acknowledge p }
 {
@@ -127,6 +136,7 @@ fn in_acknowledge(p: Part) -> bool
 }
 
 // A difference in part p; o: recessive is driven in a plain bit or first half.
+#[tactic(auto, using(std::proofs::lemmas::Bool::Decides::nat_tests), unfolding(rules::specs::Definitions::Attempt::difference_in))]
 fn difference_in(p: Part, o: bool) -> Verdict
     ensures { result ≡ rule.difference_in p o }
 {
@@ -143,6 +153,7 @@ fn difference_in(p: Part, o: bool) -> Verdict
 }
 
 // A sample unlike the level due, where d is driven.
+#[tactic(auto, using(std::proofs::lemmas::Bool::Decides::nat_tests), unfolding(rules::specs::Definitions::Attempt::difference))]
 fn difference(n: u8, k: u16, d: u8) -> Verdict
     ensures { result ≡ rule.difference n k d }
 {
@@ -154,6 +165,7 @@ fn difference(n: u8, k: u16, d: u8) -> Verdict
 }
 
 // R/W 1 and RTR 1.
+#[tactic(auto, using(std::proofs::lemmas::Bool::Decides::nat_tests), unfolding(rules::specs::Definitions::Mailbox::asks_reply))]
 fn asks_reply(low: u8) -> bool
     ensures { result ≡ mailbox.asks_reply low }
 {
@@ -161,6 +173,7 @@ fn asks_reply(low: u8) -> bool
 }
 
 // A reply request.
+#[tactic(auto, using(std::proofs::lemmas::Bool::Decides::nat_tests), unfolding(rules::specs::Definitions::Attempt::is_request))]
 pub fn is_request(x: Coded) -> bool
     ensures { result ≡ rule.is_request x }
 {
@@ -171,6 +184,7 @@ pub fn is_request(x: Coded) -> bool
 const RTR_SLOT: u16 = 28;
 
 // What a sample in slot k of a frame that the model sends is for it: n data bytes, `low` its byte 1, d the level driven.
+#[tactic(auto, using(std::proofs::lemmas::Bool::Decides::nat_tests), unfolding(crate::specs::Level::judge_level, line::specs::Frame::size))]
 pub fn judge_level(n: u8, low: u8, k: u16, d: u8, v: u8) -> Verdict
     ensures { result ≡ level.judge_level n low k d v }
 {
@@ -187,6 +201,7 @@ pub fn judge_level(n: u8, low: u8, k: u16, d: u8, v: u8) -> Verdict
 }
 
 // A good end, for an answered request: success where a channel stores the frame.
+#[tactic(auto, using(std::proofs::lemmas::Bool::Decides::nat_tests), unfolding(rules::specs::Definitions::Service::good_for))]
 fn good_for(d: Delivery) -> Verdict
     ensures { result ≡ service_rule.good_for d }
 {
@@ -199,6 +214,7 @@ fn good_for(d: Delivery) -> Verdict
 }
 
 // What a sample of the frame that answers it is for an attempt.
+#[tactic(auto, using(std::proofs::lemmas::Bool::Decides::nat_tests), unfolding(rules::specs::Definitions::Service::answered_as))]
 fn answered_as(h: Hearing, d: Delivery) -> Verdict
     ensures { result ≡ service_rule.answered_as h d }
 {
@@ -213,6 +229,7 @@ fn answered_as(h: Hearing, d: Delivery) -> Verdict
 // ---- what the attempt spends
 
 // One slot more.
+#[tactic(auto, using(std::proofs::lemmas::Bool::Decides::nat_tests), unfolding(rules::specs::Definitions::Attempt::slot_spent))]
 fn slot_spent(c: Counters) -> Counters
     ensures { result ≡ rule.slot_spent c }
 {
@@ -222,6 +239,7 @@ fn slot_spent(c: Counters) -> Counters
 }
 
 // One slot and one lost attempt more: no retry is spent.
+#[tactic(auto, using(std::proofs::lemmas::Bool::Decides::nat_tests), unfolding(rules::specs::Definitions::Attempt::lost_spent, rules::specs::Definitions::Attempt::slot_spent))]
 fn lost_spent(c: Counters) -> Counters
     ensures { result ≡ rule.lost_spent c }
 {
@@ -231,6 +249,7 @@ fn lost_spent(c: Counters) -> Counters
 }
 
 // One slot and one error more.
+#[tactic(auto, using(std::proofs::lemmas::Bool::Decides::nat_tests), unfolding(rules::specs::Definitions::Attempt::error_spent, rules::specs::Definitions::Attempt::slot_spent))]
 fn error_spent(c: Counters) -> Counters
     ensures { result ≡ rule.error_spent c }
 {
@@ -240,6 +259,7 @@ fn error_spent(c: Counters) -> Counters
 }
 
 // The attempt goes on to its next slot, has ended, or is answered.
+#[tactic(auto, using(std::proofs::lemmas::Bool::Decides::nat_tests), unfolding(crate::specs::Level::progress_after, crate::specs::Following::following))]
 fn progress_after(w: Verdict, p: Progress) -> Progress
     requires { place.following w p.at < 65536 }
     ensures { result ≡ level.progress_after w p }
@@ -255,6 +275,7 @@ fn progress_after(w: Verdict, p: Progress) -> Progress
 }
 
 // What it has spent.
+#[tactic(auto, using(std::proofs::lemmas::Bool::Decides::nat_tests), unfolding(crate::specs::Level::counters_after))]
 fn counters_after(w: Verdict, c: Counters) -> Counters
     ensures { result ≡ level.counters_after w c }
 {
@@ -268,6 +289,7 @@ fn counters_after(w: Verdict, c: Counters) -> Counters
     }
 }
 
+#[tactic(auto, using(std::proofs::lemmas::Bool::Decides::nat_tests))]
 fn advance(w: Verdict, p: Progress, c: Counters) -> Trial
     requires { place.following w p.at < 65536 }
     ensures verdict { result.verdict ≡ w }
@@ -282,6 +304,7 @@ fn advance(w: Verdict, p: Progress, c: Counters) -> Trial
 }
 
 // A slot of the attempt in which d is driven: what its sample is, and place and counts after it.
+#[tactic(auto, using(std::proofs::lemmas::Bool::Decides::nat_tests, crate::proofs::Room::room))]
 pub fn tried(n: u8, low: u8, d: u8, p: Progress, c: Counters, v: u8) -> Trial
     ensures verdict { result.verdict ≡ level.judge_level n low p.at d v }
     ensures progress { result.progress ≡ level.progress_after (level.judge_level n low p.at d v) p }
@@ -292,6 +315,7 @@ pub fn tried(n: u8, low: u8, d: u8, p: Progress, c: Counters, v: u8) -> Trial
 }
 
 // A slot of an attempt that is answered: h and d are what its sample is for the line, and what it delivers.
+#[tactic(auto, using(std::proofs::lemmas::Bool::Decides::nat_tests, crate::proofs::Room::awaited_room))]
 pub fn awaited(p: Progress, c: Counters, h: Hearing, d: Delivery) -> Trial
     ensures verdict { result.verdict ≡ service_rule.answered_as h d }
     ensures progress { result.progress ≡ level.progress_after (service_rule.answered_as h d) p }
@@ -304,6 +328,7 @@ pub fn awaited(p: Progress, c: Counters, h: Hearing, d: Delivery) -> Trial
 // ---- the end of the service
 
 // Error R + 1.
+#[tactic(auto, using(std::proofs::lemmas::Bool::Decides::nat_tests), unfolding(rules::specs::Definitions::Attempt::exhausted))]
 pub fn exhausted(e: Effort) -> bool
     ensures { result ≡ rule.exhausted e }
 {

@@ -1,4 +1,6 @@
 // The receiver's judgement of a sample in identifier, command, data and check (01, Receiving).
+#![tactic(auto)]
+
 ghost use Rattle.std.specs.Prelude.{◌≡◌, ◌+◌, ◌*◌, ◌/◌, ◌%◌, get_or};
 ghost use Rattle.rules.specs.Definitions.Longest as longest_rule;
 ghost use Rattle.rules.specs.Definitions.Hearing as rule;
@@ -9,6 +11,7 @@ use rules::{Hearing, Reception};
 // ---- the length and the command
 
 // Seven nibbles, and two for each of `longest` data bytes.
+#[tactic(auto, using(std::proofs::lemmas::Bool::Decides::nat_tests))]
 fn most_nibbles(longest: u8) -> u16
     ensures { result ≡ longest_rule.most_nibbles longest }
 {
@@ -16,6 +19,7 @@ fn most_nibbles(longest: u8) -> u16
 }
 
 // Whether an odd number of whole nibbles, from 7 to the most, stands before the last three bits.
+#[tactic(auto, using(std::proofs::lemmas::Bool::Decides::nat_tests), unfolding(rules::specs::Definitions::Hearing::whole))]
 fn whole(nibbles: u8, longest: u8) -> bool
     ensures { result ≡ rule.whole nibbles longest }
 {
@@ -26,6 +30,7 @@ fn whole(nibbles: u8, longest: u8) -> bool
 }
 
 // Whether the command is a reply request: EXT 1, R/W 1, RTR 1.
+#[tactic(auto, using(std::proofs::lemmas::Bool::Decides::nat_tests), unfolding(rules::specs::Definitions::Hearing::reply_request))]
 fn reply_request(low: u8) -> bool
     ensures { result ≡ rule.reply_request low }
 {
@@ -38,6 +43,7 @@ fn reply_request(low: u8) -> bool
 // ---- the check
 
 // A byte of the frame; behind the last one, 0.
+#[tactic(auto, using(std::proofs::lemmas::Bool::Decides::nat_tests))]
 fn byte_at(bytes: [u8; line::CODED_BYTES], i: usize) -> u8
     ensures { result ≡ get_or bytes i 0 }
 {
@@ -48,6 +54,7 @@ fn byte_at(bytes: [u8; line::CODED_BYTES], i: usize) -> u8
 }
 
 // Fifteen bits: a byte, the high half of the next, and three bits.
+#[tactic(auto, using(std::proofs::lemmas::Bool::Decides::nat_tests))]
 fn fifteen(high: u8, low: u8, last: u8) -> u16
     ensures { result ≡ high * 128 + low / 16 * 8 + last % 8 }
 {
@@ -55,6 +62,7 @@ fn fifteen(high: u8, low: u8, last: u8) -> u16
 }
 
 // The check received: twelve bits behind the n data bytes, and the last three, which are plain.
+#[tactic(auto, using(std::proofs::lemmas::Bool::Decides::nat_tests), unfolding(rules::specs::Definitions::Hearing::check_received))]
 fn check_received(bytes: [u8; line::CODED_BYTES], n: u8, last: u8) -> u16
     ensures { result ≡ rule.check_received bytes n last }
 {
@@ -64,6 +72,7 @@ fn check_received(bytes: [u8; line::CODED_BYTES], n: u8, last: u8) -> u16
 }
 
 // The check of identifier, command and n data bytes. A frame's bytes hold at most DATA_AND_CHECK behind its command.
+#[tactic(auto, using(std::proofs::lemmas::Bool::Decides::nat_tests), unfolding(rules::specs::Definitions::Hearing::check_due))]
 fn check_due(bytes: [u8; line::CODED_BYTES], n: u8) -> u16
     ensures { result ≡ rule.check_due bytes n }
 {
@@ -77,6 +86,7 @@ fn check_due(bytes: [u8; line::CODED_BYTES], n: u8) -> u16
 // ---- the judgement
 
 // The pair 00: the length, then data in a reply request (house), then the check.
+#[tactic(auto, using(std::proofs::lemmas::Bool::Decides::nat_tests), unfolding(rules::specs::Definitions::Hearing::hear_end_of_data))]
 fn hear_end_of_data(r: Reception, longest: u8) -> Hearing
     ensures { result ≡ rule.hear_end_of_data r longest }
 {
@@ -95,6 +105,7 @@ fn hear_end_of_data(r: Reception, longest: u8) -> Hearing
 }
 
 // A second half: unlike the first it closes a nibble, one past the most is a length fault; 11 is a violation, 00 ends the data.
+#[tactic(auto, using(std::proofs::lemmas::Bool::Decides::nat_tests), unfolding(rules::specs::Definitions::Hearing::hear_second_half))]
 fn hear_second_half(r: Reception, longest: u8, v: u8) -> Hearing
     ensures { result ≡ rule.hear_second_half r longest v }
 {
@@ -111,6 +122,7 @@ fn hear_second_half(r: Reception, longest: u8, v: u8) -> Hearing
 }
 
 // Plain bits and first halves are never a fault.
+#[tactic(auto, using(std::proofs::lemmas::Bool::Decides::nat_tests), unfolding(rules::specs::Definitions::Hearing::hear_body))]
 pub fn hear_body(r: Reception, longest: u8, v: u8) -> Hearing
     ensures { result ≡ rule.hear_body r longest v }
 {

@@ -1,6 +1,6 @@
 -- What a slot leaves of the diagnosis, part by part.
 --   seen == counts and levels after the slot, before its rules speak        finding == what they find
---   levels-after, dominant-after, sc-after, condition-after, period-after == the parts after a slot
+--   levels_after, dominant_after, sc_after, condition_after, period_after == the parts after a slot
 use Prim.Native.Nat.{ℕ, ◌+◌}
 use mathlib.Core.Bool.{Bool, true, false}
 use mathlib.Core.Path.{◌≡◌, refl, ap, ◌∙◌}

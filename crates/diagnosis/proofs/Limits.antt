@@ -1,5 +1,5 @@
 -- The counts of the diagnosis stay in their ranges.
---   Limits == what holds of every reached diagnosis; control is 0x02        diagnosed-limits, pulsed-limits, renewed-limits, rate-limits == it is kept
+--   Limits == what holds of every reached diagnosis; control is 0x02        diagnosed_limits, pulsed_limits, renewed_limits, rate_limits == it is kept
 use Prim.Native.Nat.{ℕ, ◌+◌, ◌-◌, ◌≤◌}
 use mathlib.Core.Bool.{Bool, true, false, false≢true}
 use mathlib.Core.Path.{◌≡◌, subst}

@@ -1,6 +1,6 @@
 -- Bits of numbers: what `&` with a mask and `|` with a mask do.
---   and_bit == bit by bit        no_bits, some-bit == a number is zero exactly if it has no one
---   masked == `v & mask` is not zero exactly if the mask's bit is one        or-mask == `v | mask` sets it
+--   and_bit == bit by bit        no_bits, some_bit == a number is zero exactly if it has no one
+--   masked == `v & mask` is not zero exactly if the mask's bit is one        or_mask == `v | mask` sets it
 use Prim.Native.Nat.{ℕ, zero, suc, ◌+◌, ◌-◌, ◌*◌, ◌/◌, ◌%◌, ◌^◌, ◌<◌, min, max}
 use mathlib.Core.Bool.{not}
 use mathlib.Core.Path.{◌≡◌, refl, ap, ap₂, sym, ◌∙◌}

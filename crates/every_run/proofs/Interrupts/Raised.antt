@@ -1,5 +1,5 @@
 -- Interrupts.antt, the six bits: the flags after every event, and what turns one of them to 1.
---   slot-rst, .. == each bit after a slot        interrupts == the claim, entire
+--   slot_rst, .. == each bit after a slot        interrupts == the claim, entire
 use Prim.Native.Nat.{ℕ, ◌+◌, ◌/◌, ◌%◌, ◌≤◌}
 use mathlib.Core.Bool.{Bool, true, false, not, false≢true}
 use mathlib.Core.List.{List}

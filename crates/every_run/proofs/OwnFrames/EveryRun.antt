@@ -1,6 +1,6 @@
 -- The claim on own frames, over every list of events.
---   slot_cases, slot-sampled == the controller after a slot
---   own, own-reply == the claim for a slot        own-every == the claim for every list of events
+--   slot_cases, slot_sampled == the controller after a slot
+--   own, own_reply == the claim for a slot        own_every == the claim for every list of events
 use Prim.Native.Nat.{ℕ, zero, suc, ◌+◌, ◌*◌, ◌/◌, ◌%◌, ◌≤◌, ◌<◌}
 use mathlib.Core.Bool.{Bool, true, false, false≢true, not}
 use mathlib.Core.List.{List, [], ◌∷◌}

@@ -1,6 +1,6 @@
 -- What every reached controller keeps between events.
 --   Past == the frame under way is past its R/W slot        Beside == a reply stands beside no attempt
---   Steady == a service asked to stop has ended, a waiting idle has a service to wait for, and a reply stands beside no attempt: steady-after
+--   Steady == a service asked to stop has ended, a waiting idle has a service to wait for, and a reply stands beside no attempt: steady_after
 use Prim.Native.Nat.{ℕ, ◌+◌, ◌%◌, ◌≤◌}
 use mathlib.Core.Bool.{Bool, true, false, false≢true}
 use mathlib.Core.List.{List, [], ◌∷◌}

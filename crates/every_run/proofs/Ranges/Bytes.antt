@@ -1,6 +1,6 @@
 -- Rows of bytes stay rows of bytes, and what they say stays in its range.
---   at-below, set_below, .. == reading and writing a row        fits-sent, setting-small == the frame that a channel sends and MR
---   stored-below, cher-below, .. == what is written to the memory map        buffer-limits, winner-limits, ready-named == who takes a frame, who sends
+--   at_below, set_below, .. == reading and writing a row        fits_sent, setting_small == the frame that a channel sends and MR
+--   stored_below, cher_below, .. == what is written to the memory map        buffer_limits, winner_limits, ready_named == who takes a frame, who sends
 use Prim.Native.Nat.{ℕ, zero, suc, ◌+◌, ◌-◌, ◌%◌, ◌≤◌, ◌<◌}
 use mathlib.Core.Bool.{Bool, true, false, not, false≢true}
 use mathlib.Core.List.{List}

@@ -1,5 +1,5 @@
 -- The diagnosis of every reached controller counts within its period (02, Req 05: "6 also covers a counter beyond its period"); so no reached controller is refused with number 6.
---   Counting == what every reached controller keeps        counting-next, counting-after == it is kept        never-six == every number is in range, and never-refused-six
+--   Counting == what every reached controller keeps        counting_next, counting_after == it is kept        never_six == every number is in range, and never_refused_six
 --   control_slot == no slot changes a control register
 use Prim.Native.Nat.{ℕ, zero, suc, ◌+◌, ◌-◌, ◌%◌, ◌≤◌, ◌<◌}
 use mathlib.Core.Bool.{Bool, true, false, not}

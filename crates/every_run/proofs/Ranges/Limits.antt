@@ -1,5 +1,5 @@
 -- The ranges of the state's numbers as facts, and what every reached controller keeps (01, Numbers refused, 6).
---   Limits == State.ranges as facts: limits-in-range        Fine == what every reached controller keeps
+--   Limits == State.ranges as facts: limits_in_range        Fine == what every reached controller keeps
 use Prim.Native.Nat.{◌≤◌, ◌-◌}
 use mathlib.Core.Bool.{true}
 use mathlib.Core.Path.{◌≡◌}

@@ -1,6 +1,6 @@
 -- Every controller that a fresh one reaches is fine: none is refused with number 6. A refused event changes nothing.
---   fine-fresh, fine-next, fine-after == every reached controller is fine        in-range-other == a controller in range is never refused with 6 (Never6.antt: none that is reached is)
---   refused-same, refused-value == a refusal leaves the controller as it is, with zero elsewhere
+--   fine_fresh, fine_next, fine_after == every reached controller is fine        in_range_other == a controller in range is never refused with 6 (Never6.antt: none that is reached is)
+--   refused_same, refused_value == a refusal leaves the controller as it is, with zero elsewhere
 use Prim.Native.Nat.{ℕ, ◌%◌, ◌≤◌, ◌<◌}
 use mathlib.Core.Bool.{Bool, true, false, not, false≢true}
 use mathlib.Core.List.{List, [], ◌∷◌}

@@ -1,6 +1,6 @@
 -- What a sample does to the frame under way, the line, the registers and the memory map of a fine state.
---   Received == the frame under way between events: judged-received        line_small == the line
---   Heard == what a sample may be for the line: frame-heard, quiet-heard        heard-report, delivered-report, delivered-below == registers and memory map
+--   Received == the frame under way between events: judged_received        line_small == the line
+--   Heard == what a sample may be for the line: frame_heard, quiet_heard        heard_report, delivered_report, delivered_below == registers and memory map
 use Prim.Native.Nat.{ℕ, ◌+◌, ◌/◌, ◌%◌, ◌≤◌, ◌<◌}
 use mathlib.Core.List.{List}
 use native.Mathlib.Omega.{arith}

@@ -1,6 +1,6 @@
 -- The reception tells the samples, sample by sample; and so what it judges is what the samples are.
---   invariant-begun, invariant-step, invariant-named == it goes on telling them        invariant-good, invariant-acknowledges == what a good frame and a driven acknowledge say of the samples
---   invariant-last, invariant-goes, invariant-fault, invariant-open == what the samples of a frame are judged as        invariant-command, invariant-kept, invariant-header == identifier and command
+--   invariant_begun, invariant_step, invariant_named == it goes on telling them        invariant_good, invariant_acknowledges == what a good frame and a driven acknowledge say of the samples
+--   invariant_last, invariant_goes, invariant_fault, invariant_open == what the samples of a frame are judged as        invariant_command, invariant_kept, invariant_header == identifier and command
 use Prim.Native.Nat.{ℕ, suc, ◌+◌, ◌*◌, ◌/◌, ◌%◌, ◌≤◌, ◌<◌}
 use mathlib.Core.Bool.{Bool, true, false, not, false≢true}
 use mathlib.Core.List.{List, [], ◌∷◌, ◌++◌, append_assoc}

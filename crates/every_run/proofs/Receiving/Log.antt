@@ -1,5 +1,5 @@
 -- The log and the frame under way: what a sample leaves of them, whether the model receives or sends.
---   Following == the frame under way tells the log's samples, and who takes it        Stands == what holds between events: sampled-stands
+--   Following == the frame under way tells the log's samples, and who takes it        Stands == what holds between events: sampled_stands
 use Prim.Native.Nat.{ℕ, zero, suc, ◌+◌, ◌*◌, ◌%◌, ◌≤◌, ◌<◌}
 use mathlib.Core.Bool.{Bool, true, false, false≢true}
 use mathlib.Core.List.{List, [], ◌∷◌, ◌++◌}

@@ -1,5 +1,5 @@
 -- Controller and log over every event: idle, choice and start, a host write, a slot.
---   Logs == they belong together: next-logs
+--   Logs == they belong together: next_logs
 use Prim.Native.Nat.{ℕ, ◌%◌, ◌<◌, ◌≤◌}
 use mathlib.Core.Bool.{Bool, true, false, false≢true, not}
 use mathlib.Core.List.{List}

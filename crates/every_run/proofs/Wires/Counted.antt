@@ -1,5 +1,5 @@
 -- The counts of the diagnosis are those of the claims' own record.
---   Same == diagnosis and record belong together; k is 0x02        same-slot, same-pulsed, same-renewed, same-rate == they do after a slot, a pulse and a write
+--   Same == diagnosis and record belong together; k is 0x02        same_slot, same_pulsed, same_renewed, same_rate == they do after a slot, a pulse and a write
 use Prim.Native.Nat.{ℕ, ◌+◌, ◌<◌, min}
 use mathlib.Core.Bool.{Bool, true, false, not, false≢true}
 use mathlib.Core.Path.{◌≡◌, refl, sym, ap, subst, ◌∙◌}

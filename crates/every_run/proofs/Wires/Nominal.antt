@@ -1,5 +1,5 @@
 -- With equal levels on all three inputs, four edges in every period and no eight dominant samples in a row the diagnosis stays nominal with Sc 0.
---   Calmed == what such a run keeps        calm-slot, calm-pulsed, calm-renewed == it is kept
+--   Calmed == what such a run keeps        calm_slot, calm_pulsed, calm_renewed == it is kept
 use Prim.Native.Nat.{ℕ, ◌+◌, ◌≤◌, ◌<◌, min}
 use mathlib.Core.Bool.{Bool, true, false}
 use mathlib.Core.Path.{◌≡◌, refl, sym, ap, ◌∙◌}

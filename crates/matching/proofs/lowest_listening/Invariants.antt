@@ -1,8 +1,6 @@
 use Prim.Native.Nat.{◌≤◌, ◌-◌}
-use mathlib.Core.Path.{◌≡◌, refl, sym, ◌∙◌}
-use native.Mathlib.Omega.{arith}
+use mathlib.Core.Path.{◌≡◌}
 use Rattle.rules.specs.Definitions.Channels.{lowest, takes, lowest_listening}
-use Rattle.matching.proofs.Lowest.{lowest_here, lowest_next, lowest_end}
 use Rattle.matching.proofs.lowest_listening.Given as goal
 
 abbrev pub invariant-loop-c : goal.invariant-loop-c

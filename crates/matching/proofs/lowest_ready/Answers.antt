@@ -1,8 +1,6 @@
-use Prim.Native.Nat.{◌≤◌, ◌-◌}
-use mathlib.Core.Path.{◌≡◌, refl, sym, ◌∙◌}
+use mathlib.Core.Path.{refl}
 use native.Mathlib.Omega.{arith}
-use Rattle.rules.specs.Definitions.Channels.{lowest, ready, lowest_ready}
-use Rattle.matching.proofs.Lowest.{lowest_here, lowest_next, lowest_end}
+use Rattle.rules.specs.Definitions.Channels.{lowest_ready}
 use Rattle.matching.proofs.lowest_ready.Goals as goal
 
 pub loop-channel-init : goal.loop-channel-init

@@ -1,8 +1,6 @@
 use Prim.Native.Nat.{◌≤◌, ◌-◌}
-use mathlib.Core.Path.{◌≡◌, refl, sym, ◌∙◌}
-use native.Mathlib.Omega.{arith}
+use mathlib.Core.Path.{◌≡◌}
 use Rattle.rules.specs.Definitions.Channels.{lowest, ready, lowest_ready}
-use Rattle.matching.proofs.Lowest.{lowest_here, lowest_next, lowest_end}
 use Rattle.matching.proofs.lowest_ready.Given as goal
 
 abbrev pub invariant-loop-channel : goal.invariant-loop-channel

@@ -1,8 +1,6 @@
 use Prim.Native.Nat.{◌≤◌, ◌-◌}
-use mathlib.Core.Path.{◌≡◌, refl, sym, ◌∙◌}
-use native.Mathlib.Omega.{arith}
+use mathlib.Core.Path.{◌≡◌}
 use Rattle.rules.specs.Definitions.Channels.{lowest, settles_reply}
-use Rattle.matching.proofs.Lowest.{lowest_here, lowest_next, lowest_end}
 use Rattle.matching.proofs.lowest_settling.Given as goal
 
 abbrev pub invariant-loop-candidate : goal.invariant-loop-candidate

@@ -1,5 +1,5 @@
 -- The state, its modes and its ranges (01, Memory map; Numbers refused, 6; 02, Req 01 and Req 05).
---   ranges == the numbers of the state, each with its largest value        inRange == each is in its range        reset_core == the state after reset
+--   ranges == the numbers of the state, each with its largest value        in_range == each is in its range        reset_core == the state after reset
 --   idled, idle_due, slept, idle_asked, activated == the commands IDLE, SLEEP, ACTI
 use Rattle.std.specs.Prelude.{ℕ, ◌-◌, Bool, true, false, List, [], ◌∷◌, leb, get_or}
 use Rattle.line.specs.Bits.{pick}

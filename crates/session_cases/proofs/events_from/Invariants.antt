@@ -1,10 +1,8 @@
 use Prim.Native.Nat.{◌≤◌, ◌-◌}
-use mathlib.Core.Path.{◌≡◌, refl, sym, ◌∙◌, ap}
-use native.Mathlib.Omega.{arith}
-use borrow.Author.Rules.{rules}
+use mathlib.Core.Path.{◌≡◌}
 use Rattle.session.specs.Reading.{events_at}
-use Rattle.session_cases.specs.Summary.{outcome, ended}
-use Rattle.session_cases.proofs.Laws.{after, first_due, stopped, went_on, all_read}
+use Rattle.session_cases.specs.Summary.{outcome}
+use Rattle.session_cases.proofs.Laws.{after}
 use Rattle.session_cases.proofs.events_from.Given as goal
 
 -- What is due from the place on gives the outcome; the events due fall.
