@@ -1,5 +1,5 @@
 -- The receiver and the decoder agree.
-use Prim.Native.Nat.{ℕ, ◌+◌, ◌≤◌, ◌<◌}
+use Prim.Native.Nat.{ℕ, ◌≤◌, ◌<◌}
 use mathlib.Core.Bool.{Bool, true, false, false≢true}
 use mathlib.Core.List.{List, [], ◌∷◌, ◌++◌, append_assoc}
 use mathlib.Core.Path.{◌≡◌, refl, sym, ◌∙◌, ap, subst}
@@ -10,7 +10,6 @@ use lib.ListN.{length, length-append}
 use Rattle.line.specs.Bits.{pick, Below, none, one}
 use Rattle.line.specs.Frame.{Frame, Fits, slots, size}
 use Rattle.line.proofs.Laws.{slots_length}
-use Rattle.codec.specs.Decode.{frame}
 use Rattle.codec.proofs.Exact.{codec}
 use Rattle.rules.specs.Definitions.Channels.{nobody, winner_for}
 use Rattle.rules.specs.Definitions.Longest.{capacity}

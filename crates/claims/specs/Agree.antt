@@ -1,8 +1,7 @@
 -- The receiver and the decoder agree (demand 2): over a list of slots and a memory map that lies still.
 --   receives == the receiver ends a good frame in the last of the slots, and no sooner        Accepted == the slots decode to a frame that is valid for who takes it
 use Rattle.std.specs.Prelude.{ℕ, Bool, false, List, [], ◌∷◌, ◌≡◌, eqb, length}
-use Rattle.line.specs.Bits.{one}
-use Rattle.line.specs.Frame.{Frame, slots}
+use Rattle.line.specs.Frame.{Frame}
 use Rattle.codec.specs.Decode.{frame, reading}
 use Rattle.rules.specs.Definitions.Channels.{winner_for}
 use Rattle.rules.specs.Definitions.Hearing.{hear_frame}

@@ -25,7 +25,7 @@ use Rattle.line.specs.Frame.{Frame, Fits, covered, slots}
 use Rattle.line.specs.Layout.{level_of}
 use Rattle.line.specs.Claims.{Checked}
 use Rattle.codec.specs.Encode.{encoded_room}
-use Rattle.codec.specs.Decode.{Reading, frame, refused, reading, decoded, decoded_room}
+use Rattle.codec.specs.Decode.{Reading, frame, reading, decoded, decoded_room}
 use Rattle.codec.specs.declared.Refusal as codec_refusal
 use Rattle.codec.specs.declared.Encoded.TheVariants as encoding
 use Rattle.codec.specs.declared.Decoded.TheVariants as decoding
@@ -38,7 +38,7 @@ use Rattle.rules.specs.Definitions.Reception.{begun}
 use Rattle.rules.specs.Definitions.Hearing.{fits}
 use Rattle.every_run.specs.Valid.{low}
 use Rattle.rules.specs.Definitions.State.{in_range, is_asleep}
-use Rattle.rules.specs.Definitions.Run.{fresh, step, next, after}
+use Rattle.rules.specs.Definitions.Run.{fresh, step, after}
 use Rattle.every_run.specs.Observer.{at_reset}
 use Rattle.every_run.specs.Sending.{SendingOver}
 use Rattle.every_run.specs.Settled.{SettledOver}

@@ -1,5 +1,7 @@
 // The promises on the definitions; the page itself is specs/Claims.antt. No code runs here: each function's contract states a part of the page.
 // What the calls and the codec's code do is said in their own contracts, which the head of the page lists.
+#![tactic(auto)]
+
 ghost use Rattle.claims.specs.Claims as claims;
 
 // Holds the numbers refused, and that a refusal changes nothing; it does nothing.

@@ -1,4 +1,6 @@
 // What an accepted write and a reset do over the lent memory map: commands, flags, abort (01, Memory map).
+#![tactic(auto)]
+
 ghost use Rattle.std.specs.Prelude.{◌≡◌};
 ghost use Rattle.rules.specs.Definitions.Host as rule;
 ghost use Rattle.rules.specs.Definitions.Mailbox as mailbox;
@@ -14,6 +16,7 @@ use rules::{Activity, Core, Mode, Service};
 // ---- commands: GRES, SLEEP, IDLE, ACTI, and REAR
 
 // GRES: it acts before all else.
+#[tactic(auto, using(std::proofs::lemmas::Bool::Decides::nat_tests), unfolding(rules::specs::Definitions::Host::resets, registers::specs::Command::asked))]
 fn resets(address: usize, v: u8) -> bool
     ensures { result ≡ rule.resets address v }
 {
@@ -25,6 +28,7 @@ fn resets(address: usize, v: u8) -> bool
 }
 
 // SLEEP: it acts unless GRES does.
+#[tactic(auto, using(std::proofs::lemmas::Bool::Decides::nat_tests), unfolding(rules::specs::Definitions::Host::sleeps, registers::specs::Command::asked))]
 fn sleeps(address: usize, v: u8) -> bool
     ensures { result ≡ rule.sleeps address v }
 {
@@ -36,6 +40,7 @@ fn sleeps(address: usize, v: u8) -> bool
 }
 
 // SLEEP acts at once: service and frame go, registers and flags stay.
+#[tactic(auto, using(std::proofs::lemmas::Bool::Decides::nat_tests), unfolding(rules::specs::Definitions::State::slept, rules::specs::Definitions::State::in_mode))]
 fn slept(k: Core) -> Core
     ensures { result ≡ core.slept k }
 {
@@ -52,6 +57,7 @@ fn slept(k: Core) -> Core
 }
 
 // IDLE waits for the end of the service; whether it is due is asked afterwards.
+#[tactic(auto, using(std::proofs::lemmas::Bool::Decides::nat_tests), unfolding(rules::specs::Definitions::State::idle_asked, rules::specs::Definitions::State::in_mode))]
 fn idle_asked(k: Core) -> Core
     ensures { result ≡ core.idle_asked k }
 {
@@ -68,6 +74,7 @@ fn idle_asked(k: Core) -> Core
 }
 
 // ACTI in active mode only cancels a waiting idle; else twelve recessive slots are wanted.
+#[tactic(auto, using(std::proofs::lemmas::Bool::Decides::nat_tests), unfolding(rules::specs::Definitions::State::activated, rules::specs::Definitions::State::in_mode))]
 fn activated(k: Core) -> Core
     ensures { result ≡ core.activated k }
 {
@@ -85,6 +92,7 @@ fn activated(k: Core) -> Core
 }
 
 // Only the first one set acts.
+#[tactic(auto, using(std::proofs::lemmas::Bool::Decides::nat_tests), unfolding(rules::specs::Definitions::Host::mode_commanded, registers::specs::Command::asked))]
 fn mode_commanded(k: Core, v: u8) -> Core
     ensures { result ≡ rule.mode_commanded k v }
 {
@@ -99,6 +107,7 @@ fn mode_commanded(k: Core, v: u8) -> Core
 }
 
 // REAR without a service is not remembered.
+#[tactic(auto, using(std::proofs::lemmas::Bool::Decides::nat_tests), unfolding(rules::specs::Definitions::Service::rear_asked))]
 fn rear_asked(s: Service) -> Service
     ensures { result ≡ service.rear_asked s }
 {
@@ -108,6 +117,7 @@ fn rear_asked(s: Service) -> Service
     t
 }
 
+#[tactic(auto, using(std::proofs::lemmas::Bool::Decides::nat_tests), unfolding(rules::specs::Definitions::Host::rear_commanded, registers::specs::Command::asked))]
 fn rear_commanded(s: Service, v: u8) -> Service
     ensures { result ≡ rule.rear_commanded s v }
 {
@@ -121,6 +131,7 @@ fn rear_commanded(s: Service, v: u8) -> Service
 // ---- an accepted write
 
 // The byte as written; commands and interrupt resets act and are not kept.
+#[tactic(auto, using(std::proofs::lemmas::Bool::Decides::nat_tests), unfolding(rules::specs::Definitions::Host::kept_byte))]
 fn keep_byte(m: &mut [u8; 256], address: usize, v: u8)
     ensures { m.new ≡ rule.kept_byte m.old address v }
 {
@@ -130,6 +141,7 @@ fn keep_byte(m: &mut [u8; 256], address: usize, v: u8)
     m[address % 256] = v;
 }
 
+#[tactic(auto, using(std::proofs::lemmas::Bool::Decides::nat_tests), unfolding(rules::specs::Definitions::Host::flags_cleared))]
 fn flags_cleared(k: Core, v: u8) -> Core
     ensures { result ≡ rule.flags_cleared k v }
 {
@@ -140,6 +152,7 @@ fn flags_cleared(k: Core, v: u8) -> Core
     t
 }
 
+#[tactic(auto, using(std::proofs::lemmas::Bool::Decides::nat_tests), unfolding(rules::specs::Definitions::Host::core_written))]
 fn core_written(k: Core, address: usize, v: u8) -> Core
     ensures { result ≡ rule.core_written k address v }
 {
@@ -153,6 +166,7 @@ fn core_written(k: Core, address: usize, v: u8) -> Core
 }
 
 // An abort waits for the end of the attempt.
+#[tactic(auto, using(std::proofs::lemmas::Bool::Decides::nat_tests), unfolding(rules::specs::Definitions::Service::abort_asked))]
 fn abort_asked(s: Service) -> Service
     ensures { result ≡ service.abort_asked s }
 {
@@ -162,6 +176,7 @@ fn abort_asked(s: Service) -> Service
 }
 
 // Whether a host's write sets CHER of the channel in service.
+#[tactic(auto, using(std::proofs::lemmas::Bool::Decides::nat_tests), unfolding(rules::specs::Definitions::Service::aborts))]
 fn aborts(s: Service, address: usize, value: u8) -> bool
     ensures { result ≡ service.aborts s address value }
 {
@@ -176,6 +191,7 @@ fn aborts(s: Service, address: usize, value: u8) -> bool
 }
 
 // What a write asks of the service: REAR, or an abort.
+#[tactic(auto, using(std::proofs::lemmas::Bool::Decides::nat_tests), unfolding(rules::specs::Definitions::Host::service_asked))]
 fn service_asked(s: Service, address: usize, v: u8) -> Service
     ensures { result ≡ rule.service_asked s address v }
 {
@@ -189,6 +205,7 @@ fn service_asked(s: Service, address: usize, v: u8) -> Service
 }
 
 // A service asked to stop between attempts ends at once; a waiting idle is then due.
+#[tactic(auto, using(std::proofs::lemmas::Bool::Decides::nat_tests), unfolding(rules::specs::Definitions::Host::stopped_core))]
 fn stopped_core(k: Core, s: Service) -> Core
     ensures { result ≡ rule.stopped_core k s }
 {
@@ -202,6 +219,7 @@ fn stopped_core(k: Core, s: Service) -> Core
 }
 
 // A pulse by hand; other SDC bits in 0x02.
+#[tactic(auto, using(std::proofs::lemmas::Bool::Decides::nat_tests), unfolding(rules::specs::Definitions::Host::diagnosis_written, registers::specs::Command::asked))]
 fn diagnosis_written(m: &[u8; 256], x: Diagnosis, address: usize, v: u8) -> Diagnosis
     ensures { result ≡ rule.diagnosis_written m.now x address v }
 {
@@ -222,6 +240,7 @@ fn diagnosis_written(m: &[u8; 256], x: Diagnosis, address: usize, v: u8) -> Diag
     x
 }
 
+#[tactic(auto, using(std::proofs::lemmas::Bool::Decides::nat_tests), unfolding(rules::specs::Definitions::Host::byte_written, rules::specs::Definitions::Host::kept_byte, rules::specs::Definitions::Service::memory_ended, rules::specs::Definitions::Mailbox::marked_chtx, rules::specs::Definitions::Mailbox::marked_cher))]
 fn byte_written(m: &mut [u8; 256], k: Core, address: usize, v: u8) -> Core
     ensures { answers.controller m.new result ≡ rule.byte_written (answers.controller m.old k) address v }
 {
@@ -236,6 +255,7 @@ fn byte_written(m: &mut [u8; 256], k: Core, address: usize, v: u8) -> Core
 }
 
 // Reset, by pin or GRES.
+#[tactic(auto, using(std::proofs::lemmas::Bool::Decides::nat_tests))]
 pub fn reset(m: &mut [u8; 256]) -> Core
     ensures map { m.new ≡ mailbox.reset_memory m.old }
     ensures core { result ≡ core.reset_core }
@@ -245,6 +265,7 @@ pub fn reset(m: &mut [u8; 256]) -> Core
 }
 
 // An accepted write: GRES, else SLEEP, else the byte and what it asks.
+#[tactic(auto, using(std::proofs::lemmas::Bool::Decides::nat_tests), unfolding(rules::specs::Definitions::Host::host_written, rules::specs::Definitions::Host::reset_all))]
 pub fn host_written(m: &mut [u8; 256], k: Core, address: usize, v: u8) -> Core
     ensures { answers.controller m.new result ≡ rule.host_written (answers.controller m.old k) address v }
 {

@@ -1,5 +1,7 @@
 // Plays each session of standard input on a fresh controller and writes its number and its listing (01, Session and listing).
 // The input: how many sessions there are, then each, its length in front of it; both in two bytes, the high one first.
+#![tactic(auto)]
+
 use rules::{Controller, Reply};
 use session::{End, Event, Fault, Header, Item};
 use std::alloc::Global;
@@ -51,8 +53,7 @@ fn play<W: Write>(out: &mut W, s: &[u8]) -> io::Result<()> {
 fn play_events<W: Write>(out: &mut W, s: &[u8], count: u16, first: usize) -> io::Result<()> {
     let mut c = controller::fresh();
     let mut at = first;
-    let mut n = 0u16;
-    while n < count {
+    for n in 0..count {
         match reading_place::event_from(s, at) {
             Item::Bad(f, p, looked) => {
                 return bad(out, f, p, looked);
@@ -62,7 +63,6 @@ fn play_events<W: Write>(out: &mut W, s: &[u8], count: u16, first: usize) -> io:
                 at = next;
             }
         }
-        n += 1;
     }
     close(out, s, at, count)
 }

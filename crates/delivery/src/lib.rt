@@ -1,10 +1,13 @@
 // What another module's frame does to the channel that takes it (01, Receiving; 02, Req 04).
+#![tactic(auto)]
+
 ghost use Rattle.std.specs.Prelude.{◌≡◌};
 ghost use Rattle.rules.specs.Definitions.Delivery as rule;
 
 use rules::{Delivery, Hearing, Reception};
 
 // A valid frame is stored where it fits, else it overflows.
+#[tactic(auto, using(std::proofs::lemmas::Bool::Decides::nat_tests), unfolding(rules::specs::Definitions::Delivery::delivered))]
 fn delivered(r: Reception) -> Delivery
     ensures { result ≡ rule.delivered r }
 {
@@ -16,6 +19,7 @@ fn delivered(r: Reception) -> Delivery
 }
 
 // What a sample does to a channel that has matched.
+#[tactic(auto, using(std::proofs::lemmas::Bool::Decides::nat_tests), unfolding(rules::specs::Definitions::Delivery::delivery_to))]
 fn delivery_to(h: Hearing, r: Reception) -> Delivery
     ensures { result ≡ rule.delivery_to h r }
 {
@@ -28,6 +32,7 @@ fn delivery_to(h: Hearing, r: Reception) -> Delivery
 }
 
 // What a sample does to the channel that takes the frame, if one has matched.
+#[tactic(auto, using(std::proofs::lemmas::Bool::Decides::nat_tests), unfolding(rules::specs::Definitions::Delivery::delivery_of))]
 pub fn delivery_of(h: Hearing, r: Reception) -> Delivery
     ensures { result ≡ rule.delivery_of h r }
 {
@@ -41,6 +46,7 @@ pub fn delivery_of(h: Hearing, r: Reception) -> Delivery
 // ---- the memory map
 
 // Status byte, data and, where M_L leaves two places, the check to the mailbox, the identifier to the tag, CHRx.
+#[tactic(auto, using(std::proofs::lemmas::Bool::Decides::nat_tests), unfolding(rules::specs::Definitions::Delivery::memory_stored))]
 fn store(m: &mut [u8; 256], r: Reception)
     ensures { m.new ≡ rule.memory_stored m.old r }
 {
@@ -52,6 +58,7 @@ fn store(m: &mut [u8; 256], r: Reception)
 }
 
 // What a delivery writes to the map: the frame, or CHER.
+#[tactic(auto, using(std::proofs::lemmas::Bool::Decides::nat_tests), unfolding(rules::specs::Definitions::Delivery::memory_delivered))]
 pub fn deliver(m: &mut [u8; 256], d: Delivery, r: Reception)
     ensures { m.new ≡ rule.memory_delivered d m.old r }
 {

@@ -1,4 +1,6 @@
 // How a sending service ends, and the marks that this sets in its channel (01, Sending; 02, Req 01; 000, Retries, Rearbitrate and Abort).
+#![tactic(auto)]
+
 ghost use Rattle.std.specs.Prelude.{◌≡◌};
 ghost use Rattle.line.specs.Bits.{pick};
 ghost use Rattle.rules.specs.Definitions.Service as rule;
@@ -7,6 +9,7 @@ ghost use Rattle.rules.specs.declared.Ending.TheVariants as endings;
 use rules::{Coded, Delivery, Effort, Ending, Reception, Service, Stage, Verdict};
 
 // No service.
+#[tactic(auto, using(std::proofs::lemmas::Bool::Decides::nat_tests), unfolding(rules::specs::Definitions::Service::resting))]
 pub fn resting() -> Service
     ensures { result ≡ rule.resting }
 {
@@ -29,6 +32,7 @@ pub fn resting() -> Service
 // ---- the end of a service
 
 // Between attempts: exhaustion is judged first, then an abort, then REAR.
+#[tactic(auto, using(std::proofs::lemmas::Bool::Decides::nat_tests), unfolding(rules::specs::Definitions::Service::stopped))]
 pub fn stopped(s: Service) -> Ending
     ensures { result ≡ rule.stopped s }
 {
@@ -49,6 +53,7 @@ pub fn stopped(s: Service) -> Ending
 }
 
 // How the service ends in this slot: success, or as between attempts.
+#[tactic(auto, using(std::proofs::lemmas::Bool::Decides::nat_tests), unfolding(rules::specs::Definitions::Service::ending_of))]
 pub fn ending_of(w: Verdict, s: Service) -> Ending
     ensures { result ≡ rule.ending_of w s }
 {
@@ -63,6 +68,7 @@ pub fn ending_of(w: Verdict, s: Service) -> Ending
 }
 
 // A reply that the channel of a waiting request stores: a frame with R/W 1 and RTR 0.
+#[tactic(auto, using(std::proofs::lemmas::Bool::Decides::nat_tests), unfolding(rules::specs::Definitions::Service::fulfils))]
 fn fulfils(d: Delivery, r: Reception, s: Service) -> bool
     ensures { result ≡ rule.fulfils d r s }
 {
@@ -84,6 +90,7 @@ fn fulfils(d: Delivery, r: Reception, s: Service) -> bool
 }
 
 // How the service ends in this slot: fulfilled by what is delivered, or by the attempt. s has the sample counted, before has not.
+#[tactic(auto, using(std::proofs::lemmas::Bool::Decides::nat_tests))]
 pub fn end_in(w: Verdict, d: Delivery, r: Reception, before: Service, s: Service) -> Ending
     ensures { result ≡ pick (rule.fulfils d r before) endings.Fulfilled (rule.ending_of w s) }
 {
@@ -94,6 +101,7 @@ pub fn end_in(w: Verdict, d: Delivery, r: Reception, before: Service, s: Service
 }
 
 // The service, or none once it has ended.
+#[tactic(auto, using(std::proofs::lemmas::Bool::Decides::nat_tests), unfolding(rules::specs::Definitions::Service::settled))]
 pub fn settled(x: Ending, s: Service) -> Service
     ensures { result ≡ rule.settled x s }
 {
@@ -108,6 +116,7 @@ pub fn settled(x: Ending, s: Service) -> Service
 }
 
 // Success and abort set CHTx, exhaustion CHER and CHTx, REAR nothing.
+#[tactic(auto, using(std::proofs::lemmas::Bool::Decides::nat_tests), unfolding(rules::specs::Definitions::Service::memory_ended, rules::specs::Definitions::Mailbox::marked_chtx, rules::specs::Definitions::Mailbox::marked_cher))]
 pub fn end_memory(m: &mut [u8; 256], x: Ending, channel: u8)
     ensures { m.new ≡ rule.memory_ended x m.old channel }
 {

@@ -1,4 +1,6 @@
 // The receiver's judgement of a sample, and the level that it drives (01, Receiving).
+#![tactic(auto)]
+
 ghost use Rattle.std.specs.Prelude.{◌≡◌};
 ghost use Rattle.rules.specs.Definitions.Hearing as rule;
 
@@ -8,6 +10,7 @@ use rules::{Hearing, Line, Phase, Reception, Winner};
 // ---- start, acknowledge, end of frame
 
 // A start that breaks is CV.
+#[tactic(auto, using(std::proofs::lemmas::Bool::Decides::nat_tests), unfolding(rules::specs::Definitions::Hearing::hear_start))]
 fn hear_start(at: u8, v: u8) -> Hearing
     ensures { result ≡ rule.hear_start at v }
 {
@@ -18,6 +21,7 @@ fn hear_start(at: u8, v: u8) -> Hearing
 }
 
 // Whether n data bytes and the status byte are at most M_L.
+#[tactic(auto, using(std::proofs::lemmas::Bool::Decides::nat_tests), unfolding(rules::specs::Definitions::Hearing::fits))]
 pub fn fits(w: Winner, n: u8) -> bool
     ensures { result ≡ rule.fits w n }
 {
@@ -25,6 +29,7 @@ pub fn fits(w: Winner, n: u8) -> bool
 }
 
 // Whether the model drives the acknowledge: matched and fitting, RAK 1, DRAK 0. The check is right where the acknowledge is reached.
+#[tactic(auto, using(std::proofs::lemmas::Bool::Decides::nat_tests), unfolding(rules::specs::Definitions::Hearing::acknowledges))]
 fn acknowledges(r: Reception) -> bool
     ensures { result ≡ rule.acknowledges r }
 {
@@ -41,6 +46,7 @@ fn acknowledges(r: Reception) -> bool
 }
 
 // Whether an acknowledge is FV: a pattern other than 10 and 11, 10 with RAK 0, 11 where the model drove 10.
+#[tactic(auto, using(std::proofs::lemmas::Bool::Decides::nat_tests), unfolding(rules::specs::Definitions::Hearing::acknowledge_wrong))]
 fn acknowledge_wrong(asked: bool, drove: bool, first: u8, second: u8) -> bool
     ensures { result ≡ rule.acknowledge_wrong asked drove first second }
 {
@@ -54,6 +60,7 @@ fn acknowledge_wrong(asked: bool, drove: bool, first: u8, second: u8) -> bool
 }
 
 // The acknowledge is judged in its second slot.
+#[tactic(auto, using(std::proofs::lemmas::Bool::Decides::nat_tests), unfolding(rules::specs::Definitions::Hearing::hear_acknowledge))]
 fn hear_acknowledge(r: Reception, v: u8) -> Hearing
     ensures { result ≡ rule.hear_acknowledge r v }
 {
@@ -70,6 +77,7 @@ fn hear_acknowledge(r: Reception, v: u8) -> Hearing
 }
 
 // End of frame: all 1, the eighth ends a good frame.
+#[tactic(auto, using(std::proofs::lemmas::Bool::Decides::nat_tests), unfolding(rules::specs::Definitions::Hearing::hear_end))]
 fn hear_end(at: u8, v: u8) -> Hearing
     ensures { result ≡ rule.hear_end at v }
 {
@@ -85,6 +93,7 @@ fn hear_end(at: u8, v: u8) -> Hearing
 // ---- the judgement
 
 // What a sample is while a frame is under way. `longest` is the most data bytes.
+#[tactic(auto, using(std::proofs::lemmas::Bool::Decides::nat_tests), unfolding(rules::specs::Definitions::Hearing::hear_frame, rules::specs::Definitions::Hearing::hear_in))]
 pub fn hear_frame(r: Reception, longest: u8, v: u8) -> Hearing
     ensures { result ≡ rule.hear_frame r longest v }
 {
@@ -100,6 +109,7 @@ pub fn hear_frame(r: Reception, longest: u8, v: u8) -> Hearing
 }
 
 // What a sample is with no frame under way: a 0 begins one where the line takes a start.
+#[tactic(auto, using(std::proofs::lemmas::Bool::Decides::nat_tests), unfolding(rules::specs::Definitions::Hearing::hear_quiet))]
 pub fn hear_quiet(l: Line, v: u8) -> Hearing
     ensures { result ≡ rule.hear_quiet l v }
 {
@@ -115,6 +125,7 @@ pub fn hear_quiet(l: Line, v: u8) -> Hearing
 // ---- the level that a receiver drives
 
 // The acknowledge: first slot recessive, second dominant where the model acknowledges.
+#[tactic(auto, using(std::proofs::lemmas::Bool::Decides::nat_tests), unfolding(rules::specs::Definitions::Hearing::acknowledge_level))]
 fn acknowledge_level(at: u8, r: Reception) -> u8
     ensures { result ≡ rule.acknowledge_level at r }
 {
@@ -128,6 +139,7 @@ fn acknowledge_level(at: u8, r: Reception) -> u8
 }
 
 // The level that a receiver drives: dominant only in the second acknowledge slot.
+#[tactic(auto, using(std::proofs::lemmas::Bool::Decides::nat_tests), unfolding(rules::specs::Definitions::Hearing::receiver_level, rules::specs::Definitions::Hearing::receiver_in))]
 pub fn receiver_level(r: Reception) -> u8
     ensures { result ≡ rule.receiver_level r }
 {

@@ -1,4 +1,6 @@
 // Pin reset and host write over a lent memory map, and their refusals (01, Memory map; Numbers refused).
+#![tactic(auto)]
+
 ghost use Rattle.std.specs.Prelude.{◌≡◌, ◌%◌};
 ghost use Rattle.rules.specs.Definitions.Host as rule;
 ghost use Rattle.rules.specs.Definitions.Run as run;
@@ -8,6 +10,7 @@ use registers::Map;
 use rules::{Core, CoreOutcome, Refusal, Reply};
 
 // Pin reset: 6.
+#[tactic(auto, using(std::proofs::lemmas::Bool::Decides::nat_tests), unfolding(rules::specs::Definitions::Answers::answer_lent, rules::specs::Definitions::Answers::number, rules::specs::Definitions::Answers::refused_by, rules::specs::Definitions::Answers::value_of, rules::specs::Definitions::Run::pin_reset, rules::specs::Definitions::Run::accept, rules::specs::Definitions::Run::refuse, rules::specs::Definitions::Run::unless_refused, rules::specs::Definitions::Host::reset_all))]
 pub fn pin_reset_on(m: &mut [u8; 256], k: Core) -> CoreOutcome
     ensures { answers.answer_lent result m.new ≡ run.pin_reset (answers.controller m.old k) }
 {
@@ -25,6 +28,7 @@ pub fn pin_reset_on(m: &mut [u8; 256], k: Core) -> CoreOutcome
 }
 
 // 2, 3, 8, once the access is open.
+#[tactic(auto, using(std::proofs::lemmas::Bool::Decides::nat_tests), unfolding(rules::specs::Definitions::Answers::answer_lent, rules::specs::Definitions::Answers::number, rules::specs::Definitions::Answers::refused_by, rules::specs::Definitions::Answers::value_of, rules::specs::Definitions::Host::write_refusals, rules::specs::Definitions::Host::host_written, rules::specs::Definitions::Host::reset_all, rules::specs::Definitions::Run::accept, rules::specs::Definitions::Run::refuse, rules::specs::Definitions::Run::unless_refused))]
 fn write_on(m: &mut [u8; 256], k: Core, address: u16, value: u16) -> CoreOutcome
     ensures { answers.answer_lent result m.new ≡ run.unless_refused (answers.controller m.old k) (rule.write_refusals address value) (run.accept 0 (rule.host_written (answers.controller m.old k) address (value % 256))) }
 {
@@ -62,6 +66,7 @@ fn write_on(m: &mut [u8; 256], k: Core, address: u16, value: u16) -> CoreOutcome
 }
 
 // A host write: 6, 7, 1, 2, 3, 8.
+#[tactic(auto, using(std::proofs::lemmas::Bool::Decides::nat_tests), unfolding(rules::specs::Definitions::Answers::answer_lent, rules::specs::Definitions::Answers::number, rules::specs::Definitions::Answers::refused_by, rules::specs::Definitions::Answers::value_of, rules::specs::Definitions::Run::host_write, rules::specs::Definitions::Run::accept, rules::specs::Definitions::Run::refuse, rules::specs::Definitions::Run::unless_refused, rules::specs::Definitions::Host::access_refusals, rules::specs::Definitions::Host::write_refusals))]
 pub fn host_write_on(m: &mut [u8; 256], k: Core, address: u16, value: u16) -> CoreOutcome
     ensures { answers.answer_lent result m.new ≡ run.host_write (answers.controller m.old k) address value }
 {

@@ -1,4 +1,6 @@
 // Host read over a lent memory map: what each register shows, and the refusals (01, Memory map; Numbers refused).
+#![tactic(auto)]
+
 ghost use Rattle.std.specs.Prelude.{◌≡◌};
 ghost use Rattle.rules.specs.Definitions.Host as rule;
 ghost use Rattle.rules.specs.Definitions.Run as run;
@@ -9,6 +11,7 @@ use rules::{Core, CoreOutcome, Refusal, Reply};
 
 // ---- an accepted read
 
+#[tactic(auto, using(std::proofs::lemmas::Bool::Decides::nat_tests), unfolding(rules::specs::Definitions::Host::line_status_of))]
 fn line_status_of(k: Core) -> u8
     ensures { result ≡ rule.line_status_of k }
 {
@@ -23,6 +26,7 @@ fn line_status_of(k: Core) -> u8
 }
 
 // The byte of a register that the controller writes.
+#[tactic(auto, using(std::proofs::lemmas::Bool::Decides::nat_tests), unfolding(rules::specs::Definitions::Host::status_read))]
 fn status_read(k: Core, address: usize) -> u8
     ensures { result ≡ rule.status_read k address }
 {
@@ -42,6 +46,7 @@ fn status_read(k: Core, address: usize) -> u8
     status::interrupt_status(x.flags)
 }
 
+#[tactic(auto, using(std::proofs::lemmas::Bool::Decides::nat_tests), unfolding(rules::specs::Definitions::Host::byte_read))]
 fn byte_read(m: &[u8; 256], k: Core, address: usize) -> u8
     ensures { result ≡ rule.byte_read (answers.controller m.now k) address }
 {
@@ -54,6 +59,7 @@ fn byte_read(m: &[u8; 256], k: Core, address: usize) -> u8
 // ---- the call
 
 // 4, once the access is open.
+#[tactic(auto, using(std::proofs::lemmas::Bool::Decides::nat_tests), unfolding(rules::specs::Definitions::Answers::answer_lent, rules::specs::Definitions::Answers::number, rules::specs::Definitions::Answers::refused_by, rules::specs::Definitions::Answers::value_of, rules::specs::Definitions::Host::read_refusals, rules::specs::Definitions::Host::byte_read, rules::specs::Definitions::Run::accept, rules::specs::Definitions::Run::refuse, rules::specs::Definitions::Run::unless_refused))]
 fn read_on(m: &[u8; 256], k: Core, address: u16) -> CoreOutcome
     ensures { answers.answer_lent result m.now ≡ run.unless_refused (answers.controller m.now k) (rule.read_refusals address) (run.accept (rule.byte_read (answers.controller m.now k) address) (answers.controller m.now k)) }
 {
@@ -77,6 +83,7 @@ fn read_on(m: &[u8; 256], k: Core, address: u16) -> CoreOutcome
 }
 
 // A host read: 6, 7, 1, 4.
+#[tactic(auto, using(std::proofs::lemmas::Bool::Decides::nat_tests), unfolding(rules::specs::Definitions::Answers::answer_lent, rules::specs::Definitions::Answers::number, rules::specs::Definitions::Answers::refused_by, rules::specs::Definitions::Answers::value_of, rules::specs::Definitions::Run::host_read, rules::specs::Definitions::Run::accept, rules::specs::Definitions::Run::refuse, rules::specs::Definitions::Run::unless_refused, rules::specs::Definitions::Host::access_refusals, rules::specs::Definitions::Host::read_refusals))]
 pub fn host_read_on(m: &[u8; 256], k: Core, address: u16) -> CoreOutcome
     ensures { answers.answer_lent result m.now ≡ run.host_read (answers.controller m.now k) address }
 {

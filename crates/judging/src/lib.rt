@@ -1,4 +1,6 @@
 // What a sample does: judged with its effects on memory map, registers, line, frame, service and reply (01, Receiving and Sending; 02, Req 01).
+#![tactic(auto)]
+
 ghost use Rattle.std.specs.Prelude.{◌≡◌, ◌<◌};
 ghost use Rattle.rules.specs.Definitions.Slots as rule;
 ghost use Rattle.rules.specs.Definitions.Attempt as sending;
@@ -20,7 +22,7 @@ use rules::{
 };
 
 // What the model is in the frame under way; what a sample is for the attempt, the line and the reply; the attempt's place and counts after it.
-#[derive(Drop)]
+#[derive(Clone, Copy)]
 struct Judgement {
     role: Role,
     verdict: Verdict,
@@ -31,14 +33,14 @@ struct Judgement {
 }
 
 // What a sample does to registers and service.
-#[derive(Drop)]
+#[derive(Clone, Copy)]
 struct Effects {
     report: Report,
     service: Service,
 }
 
 // The state after a sample, and whether the sample ends a good frame.
-#[derive(Drop)]
+#[derive(Clone, Copy)]
 pub struct Sampled {
     pub core: Core,
     pub good: bool,
@@ -47,6 +49,7 @@ pub struct Sampled {
 // ---- what a sample is
 
 // The model's own frame, for the line: it goes on, is another's once lost or answered, ends in an error, or ends well.
+#[tactic(auto, using(std::proofs::lemmas::Bool::Decides::nat_tests), unfolding(rules::specs::Definitions::Service::hear_own))]
 fn hear_own(w: Verdict) -> Hearing
     ensures { result ≡ service_rule.hear_own w }
 {
@@ -61,6 +64,7 @@ fn hear_own(w: Verdict) -> Hearing
 }
 
 // The model's own frame is not stored and touches no receiving channel.
+#[tactic(auto, using(std::proofs::lemmas::Bool::Decides::nat_tests), unfolding(rules::specs::Definitions::Slots::delivers))]
 fn delivers(x: Role, h: Hearing, r: Reception) -> Delivery
     ensures { result ≡ rule.delivers x h r }
 {
@@ -76,6 +80,7 @@ fn delivers(x: Role, h: Hearing, r: Reception) -> Delivery
 // ---- its effects
 
 // The line after a sample; the slot of a fault does not count among the twelve.
+#[tactic(auto, using(std::proofs::lemmas::Bool::Decides::nat_tests), unfolding(rules::specs::Definitions::Hearing::line_after))]
 fn line_after(h: Hearing, l: Line, v: u8) -> Line
     ensures { result ≡ hearing_rule.line_after h l v }
 {
@@ -88,6 +93,7 @@ fn line_after(h: Hearing, l: Line, v: u8) -> Line
 }
 
 // The frame after a sample: a fault and a good end leave none.
+#[tactic(auto, using(std::proofs::lemmas::Bool::Decides::nat_tests), unfolding(rules::specs::Definitions::Hearing::reception_after))]
 fn reception_after(h: Hearing, r: Reception, v: u8) -> Reception
     ensures { result ≡ hearing_rule.reception_after h r v }
 {
@@ -100,6 +106,7 @@ fn reception_after(h: Hearing, r: Reception, v: u8) -> Reception
 }
 
 // The frame with its winner, taken in the last command slot and held (house).
+#[tactic(auto, using(std::proofs::lemmas::Bool::Decides::nat_tests), unfolding(rules::specs::Definitions::Reception::winner_taken))]
 fn winner_taken(r: Reception, m: &[u8; 256]) -> Reception
     ensures { result ≡ reception_rule.winner_taken r m.now }
 {
@@ -111,6 +118,7 @@ fn winner_taken(r: Reception, m: &[u8; 256]) -> Reception
 }
 
 // The winner is taken in the last command slot, whoever sends.
+#[tactic(auto, using(std::proofs::lemmas::Bool::Decides::nat_tests), unfolding(rules::specs::Definitions::Slots::reception_judged))]
 fn reception_judged(m: &[u8; 256], h: Hearing, r: Reception, v: u8) -> Reception
     ensures { result ≡ rule.reception_judged m.now h r v }
 {
@@ -121,6 +129,7 @@ fn reception_judged(m: &[u8; 256], h: Hearing, r: Reception, v: u8) -> Reception
     t
 }
 
+#[tactic(auto, using(std::proofs::lemmas::Bool::Decides::nat_tests), unfolding(rules::specs::Definitions::Hearing::ends_well))]
 fn ends_well(h: Hearing) -> bool
     ensures { result ≡ hearing_rule.ends_well h }
 {
@@ -135,6 +144,7 @@ fn ends_well(h: Hearing) -> bool
 // ---- the ordinary slot: neither map nor registers change
 
 // The frame goes on, or there is none.
+#[tactic(auto, using(std::proofs::lemmas::Bool::Decides::nat_tests), unfolding(crate::specs::Ordinary::passes))]
 fn passes(h: Hearing) -> bool
     ensures { result ≡ ordinary.passes h }
 {
@@ -147,6 +157,7 @@ fn passes(h: Hearing) -> bool
 }
 
 // The attempt goes on, or there is none.
+#[tactic(auto, using(std::proofs::lemmas::Bool::Decides::nat_tests), unfolding(crate::specs::Ordinary::unmarked))]
 fn unmarked(w: Verdict) -> bool
     ensures { result ≡ ordinary.unmarked w }
 {
@@ -160,6 +171,7 @@ fn unmarked(w: Verdict) -> bool
     }
 }
 
+#[tactic(auto, using(std::proofs::lemmas::Bool::Decides::nat_tests), unfolding(crate::specs::Ordinary::goes))]
 fn goes(x: Ending) -> bool
     ensures { result ≡ ordinary.goes x }
 {
@@ -173,6 +185,7 @@ fn goes(x: Ending) -> bool
     }
 }
 
+#[tactic(auto, using(std::proofs::lemmas::Bool::Decides::nat_tests), unfolding(crate::specs::Ordinary::ordinary))]
 fn ordinary(w: Verdict, h: Hearing, x: Ending) -> bool
     ensures { result ≡ ordinary.ordinary w h x }
 {
@@ -186,6 +199,7 @@ fn ordinary(w: Verdict, h: Hearing, x: Ending) -> bool
 }
 
 // The marks of an immediate reply: CHER, or CHTx and CHRx.
+#[tactic(auto, using(std::proofs::lemmas::Bool::Decides::nat_tests), unfolding(rules::specs::Definitions::Service::memory_replied))]
 fn mark_reply(m: &mut [u8; 256], q: Verdict, c: u8)
     ensures { m.new ≡ service_rule.memory_replied q m.old c }
 {
@@ -203,6 +217,7 @@ fn mark_reply(m: &mut [u8; 256], q: Verdict, c: u8)
 }
 
 // The store or CHER first, then the marks of a service that ends, then those of a reply; s has the sample counted.
+#[tactic(auto, using(std::proofs::lemmas::Bool::Decides::nat_tests), unfolding(rules::specs::Definitions::Slots::memory_judged, rules::specs::Definitions::Slots::report_after, rules::specs::Definitions::Slots::ending))]
 fn marked(
     m: &mut [u8; 256],
     k: Core,
@@ -231,6 +246,7 @@ fn marked(
 }
 
 // What a sample does to map, registers and service; s has the sample counted.
+#[tactic(auto, using(std::proofs::lemmas::Bool::Decides::nat_tests, crate::proofs::Ways::memory_kept, crate::proofs::Ways::report_kept, crate::proofs::Ways::service_kept))]
 fn take_effect(
     m: &mut [u8; 256],
     k: Core,
@@ -258,6 +274,7 @@ fn take_effect(
 // ---- the immediate reply
 
 // The reply of a channel, or none; it begins at RTR's first half.
+#[tactic(auto, using(std::proofs::lemmas::Bool::Decides::nat_tests), unfolding(rules::specs::Definitions::Service::reply_by))]
 fn reply_by(m: &[u8; 256], high: u8, low: u8, x: Choice) -> ImmediateReply
     ensures { result ≡ service_rule.reply_by m.now high low x }
 {
@@ -273,6 +290,7 @@ fn reply_by(m: &[u8; 256], high: u8, low: u8, x: Choice) -> ImmediateReply
 }
 
 // R/W is taken: the reply of the channel that replies.
+#[tactic(auto, using(std::proofs::lemmas::Bool::Decides::nat_tests), unfolding(rules::specs::Definitions::Service::reply_taken))]
 fn reply_taken(m: &[u8; 256], r: Reception) -> ImmediateReply
     ensures { result ≡ service_rule.reply_taken m.now frame.longest_data r }
 {
@@ -287,6 +305,7 @@ fn reply_taken(m: &[u8; 256], r: Reception) -> ImmediateReply
 }
 
 // The reply goes on, or it has ended.
+#[tactic(auto, using(std::proofs::lemmas::Bool::Decides::nat_tests), unfolding(rules::specs::Definitions::Service::replied, rules::specs::Definitions::Service::reply_moved, attempt::specs::Following::following))]
 fn replied(q: Verdict, y: ImmediateReply) -> ImmediateReply
     requires { behind.following q y.at < 65536 }
     ensures { result ≡ service_rule.replied q y }
@@ -306,6 +325,7 @@ fn replied(q: Verdict, y: ImmediateReply) -> ImmediateReply
 }
 
 // After a sample: taken in the R/W slot of another module's frame; q is what the sample is for the reply, r the frame after it.
+#[tactic(auto, using(std::proofs::lemmas::Bool::Decides::nat_tests), unfolding(crate::specs::Judged::reply_after))]
 fn reply_after(
     x: Role,
     m: &[u8; 256],
@@ -333,6 +353,7 @@ fn reply_after(
 // ---- the sample
 
 // For the line, but for a frame of the model's own.
+#[tactic(auto, using(std::proofs::lemmas::Bool::Decides::nat_tests), unfolding(crate::specs::Judged::hears))]
 fn hears(x: Role, r: Reception, l: Line, v: u8) -> Hearing
     ensures { result ≡ judged.hears x r l v }
 {
@@ -343,6 +364,7 @@ fn hears(x: Role, r: Reception, l: Line, v: u8) -> Hearing
 }
 
 // No attempt is under way.
+#[tactic(auto, using(std::proofs::lemmas::Bool::Decides::nat_tests))]
 fn unjudged(p: Progress, c: Counters) -> Trial
     ensures verdict { result.verdict ≡ verdicts.Unjudged }
     ensures progress { result.progress ≡ p }
@@ -356,6 +378,7 @@ fn unjudged(p: Progress, c: Counters) -> Trial
 }
 
 // For the attempt under way; h is what the sample is for another module's frame.
+#[tactic(auto, using(std::proofs::lemmas::Bool::Decides::nat_tests, attempt::proofs::Level::level_judged), unfolding(crate::specs::Judged::tried, attempt::specs::Level::progress_after, attempt::specs::Level::counters_after))]
 fn trial(x: Role, e: Effort, h: Hearing, r: Reception, v: u8) -> Trial
     ensures verdict { result.verdict ≡ judged.tried x e h r v }
     ensures progress { result.progress ≡ level.progress_after (judged.tried x e h r v) e.progress }
@@ -377,6 +400,7 @@ fn trial(x: Role, e: Effort, h: Hearing, r: Reception, v: u8) -> Trial
 }
 
 // A slot of a reply; the next has its number.
+#[tactic(auto, using(std::proofs::lemmas::Bool::Decides::nat_tests, attempt::proofs::Room::room, attempt::proofs::Level::level_judged), unfolding(rules::specs::Definitions::Service::judge_reply))]
 fn judge_reply(y: ImmediateReply, v: u8) -> Verdict
     ensures value { result ≡ service_rule.judge_reply y v }
     ensures room { behind.following result y.at < 65536 }
@@ -387,6 +411,7 @@ fn judge_reply(y: ImmediateReply, v: u8) -> Verdict
 }
 
 // For the reply under way.
+#[tactic(auto, using(std::proofs::lemmas::Bool::Decides::nat_tests), unfolding(crate::specs::Judged::reply_verdict, attempt::specs::Following::following))]
 fn reply_verdict(x: Role, y: ImmediateReply, v: u8) -> Verdict
     ensures value { result ≡ judged.reply_verdict x y v }
     ensures room { behind.following result y.at < 65536 }
@@ -401,6 +426,7 @@ fn reply_verdict(x: Role, y: ImmediateReply, v: u8) -> Verdict
 }
 
 // For the line: h is what the sample is but for a frame of the model's own, w what it is for the attempt, q for the reply.
+#[tactic(auto, using(std::proofs::lemmas::Bool::Decides::nat_tests), unfolding(crate::specs::Judged::heard))]
 fn heard(x: Role, h: Hearing, w: Verdict, q: Verdict) -> Hearing
     ensures { result ≡ judged.heard x h w q }
 {
@@ -414,6 +440,7 @@ fn heard(x: Role, h: Hearing, w: Verdict, q: Verdict) -> Hearing
 }
 
 // Judged by what the model is in the frame under way.
+#[tactic(auto, using(std::proofs::lemmas::Bool::Decides::nat_tests, crate::proofs::Ways::tried_is, crate::proofs::Ways::reply_is, crate::proofs::Ways::heard_is), unfolding(rules::specs::Definitions::Slots::heard, rules::specs::Definitions::Slots::verdict))]
 fn judge(k: Core, v: u8) -> Judgement
     ensures role { result.role ≡ rule.role_in k }
     ensures verdict { result.verdict ≡ rule.verdict k v }
@@ -444,6 +471,7 @@ fn judge(k: Core, v: u8) -> Judgement
 }
 
 // What a sample does: effects first, then line and frame, whose winner is read from the map that the effects leave.
+#[tactic(auto, using(std::proofs::lemmas::Bool::Decides::nat_tests, attempt::proofs::Level::advance_is, crate::proofs::Ways::reply_marked, crate::proofs::Ways::reply_after_is), unfolding(crate::specs::Ordinary::memory_after, crate::specs::Ordinary::core_after, rules::specs::Definitions::Slots::core_judged, rules::specs::Definitions::Slots::service_judged))]
 pub fn sample_judged(m: &mut [u8; 256], k: Core, v: u8) -> Sampled
     ensures map { m.new ≡ ordinary.memory_after m.old k v }
     ensures core { result.core ≡ ordinary.core_after m.old k v }

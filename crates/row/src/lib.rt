@@ -1,4 +1,6 @@
 // The state but for the memory map as a lent row of bytes: where each number stands, the state that a row says, and the row of a state (docs/STATE.md).
+#![tactic(auto)]
+
 ghost use Rattle.std.specs.Prelude.{◌≡◌, ◌+◌, ◌-◌, ◌%◌, ◌≤◌, ◌<◌, leb, length, set, get_or};
 ghost use Rattle.diagnosis.specs.Control as control_rule;
 ghost use Rattle.diagnosis.specs.Rules as diagnosis_rule;
@@ -23,7 +25,7 @@ use rules::{
 pub const ROW: usize = 176;
 
 // The place of each number. A number of 16 or 32 bits stands low byte first, a frame byte after byte.
-#[derive(Drop)]
+#[derive(Clone, Copy)]
 pub struct At {}
 
 impl At {
@@ -169,6 +171,7 @@ fn whole(s: &[u8; ROW]) -> [u8; ROW]
 }
 
 // Tells a proof how long the row is: its type says so. It does nothing.
+#[tactic(auto, using(std::proofs::lemmas::Bool::Decides::nat_tests))]
 fn length_known(s: &[u8; ROW])
     ensures { length s.now ≡ 176 }
 {
@@ -219,6 +222,7 @@ fn put_word(s: &mut [u8; ROW], at: usize, x: u32)
 }
 
 // The bytes of a frame.
+#[tactic(auto, using(std::proofs::lemmas::Bool::Decides::nat_tests, crate::proofs::Laws::frame_step, crate::proofs::Laws::frame_end))]
 fn frame_at(s: &[u8; ROW], at: usize) -> [u8; line::CODED_BYTES]
     requires { at ≤ 142 }
     ensures { result ≡ rule.frame_at (rule.byte_at s.now) at }
@@ -232,6 +236,7 @@ fn frame_at(s: &[u8; ROW], at: usize) -> [u8; line::CODED_BYTES]
     b
 }
 
+#[tactic(auto, using(std::proofs::lemmas::Bool::Decides::nat_tests, line::proofs::Room::put_next, line::proofs::Room::put_end))]
 fn put_frame(s: &mut [u8; ROW], at: usize, b: [u8; line::CODED_BYTES])
     requires { at ≤ 142 }
     ensures laid { s.new ≡ sets s.old at b }
@@ -244,6 +249,7 @@ fn put_frame(s: &mut [u8; ROW], at: usize, b: [u8; line::CODED_BYTES])
     }
 }
 
+#[tactic(auto, using(std::proofs::lemmas::Bool::Decides::nat_tests), unfolding(crate::specs::Bytes::bit))]
 fn bit(x: bool) -> u8
     ensures { result ≡ bytes.bit x }
 {
@@ -255,6 +261,7 @@ fn bit(x: bool) -> u8
 
 // ---- an enum as a byte
 
+#[tactic(auto, using(std::proofs::lemmas::Bool::Decides::nat_tests))]
 fn mode_of(b: u8) -> Mode
     ensures { result ≡ rule.mode_of b }
 {
@@ -265,6 +272,7 @@ fn mode_of(b: u8) -> Mode
     }
 }
 
+#[tactic(auto, using(std::proofs::lemmas::Bool::Decides::nat_tests), unfolding(crate::specs::Bytes::mode_byte))]
 fn mode_byte(x: Mode) -> u8
     ensures { result ≡ bytes.mode_byte x }
 {
@@ -275,6 +283,7 @@ fn mode_byte(x: Mode) -> u8
     }
 }
 
+#[tactic(auto, using(std::proofs::lemmas::Bool::Decides::nat_tests))]
 fn phase_of(b: u8) -> Phase
     ensures { result ≡ rule.phase_of b }
 {
@@ -287,6 +296,7 @@ fn phase_of(b: u8) -> Phase
     }
 }
 
+#[tactic(auto, using(std::proofs::lemmas::Bool::Decides::nat_tests), unfolding(crate::specs::Bytes::phase_byte))]
 fn phase_byte(x: Phase) -> u8
     ensures { result ≡ bytes.phase_byte x }
 {
@@ -299,6 +309,7 @@ fn phase_byte(x: Phase) -> u8
     }
 }
 
+#[tactic(auto, using(std::proofs::lemmas::Bool::Decides::nat_tests))]
 fn stage_of(b: u8) -> Stage
     ensures { result ≡ rule.stage_of b }
 {
@@ -311,6 +322,7 @@ fn stage_of(b: u8) -> Stage
     }
 }
 
+#[tactic(auto, using(std::proofs::lemmas::Bool::Decides::nat_tests), unfolding(crate::specs::Bytes::stage_byte))]
 fn stage_byte(x: Stage) -> u8
     ensures { result ≡ bytes.stage_byte x }
 {
@@ -323,6 +335,7 @@ fn stage_byte(x: Stage) -> u8
     }
 }
 
+#[tactic(auto, using(std::proofs::lemmas::Bool::Decides::nat_tests))]
 fn condition_of(b: u8) -> Condition
     ensures { result ≡ rule.condition_of b }
 {
@@ -334,6 +347,7 @@ fn condition_of(b: u8) -> Condition
     }
 }
 
+#[tactic(auto, using(std::proofs::lemmas::Bool::Decides::nat_tests), unfolding(crate::specs::Bytes::condition_byte))]
 fn condition_byte(x: Condition) -> u8
     ensures { result ≡ bytes.condition_byte x }
 {
@@ -347,6 +361,7 @@ fn condition_byte(x: Condition) -> u8
 
 // ---- the state that a row says
 
+#[tactic(auto, using(std::proofs::lemmas::Bool::Decides::nat_tests))]
 fn activity_of(s: &[u8; ROW]) -> Activity
     ensures { result ≡ rule.activity_by (rule.byte_at s.now) }
 {
@@ -379,6 +394,7 @@ fn retries_at(s: &[u8; ROW], at: usize) -> Retries
     }
 }
 
+#[tactic(auto, using(std::proofs::lemmas::Bool::Decides::nat_tests))]
 fn report_of(s: &[u8; ROW]) -> Report
     ensures { result ≡ rule.report_by (rule.byte_at s.now) }
 {
@@ -399,6 +415,7 @@ pub fn line_of(s: &[u8; ROW]) -> Line
     }
 }
 
+#[tactic(auto, using(std::proofs::lemmas::Bool::Decides::nat_tests))]
 fn place_of(s: &[u8; ROW]) -> Place
     ensures { result ≡ rule.place_by (rule.byte_at s.now) }
 {
@@ -420,6 +437,7 @@ fn winner_of(s: &[u8; ROW]) -> Winner
     }
 }
 
+#[tactic(auto, using(std::proofs::lemmas::Bool::Decides::nat_tests))]
 fn reception_of(s: &[u8; ROW]) -> Reception
     ensures { result ≡ rule.reception_by (rule.byte_at s.now) }
 {
@@ -432,6 +450,7 @@ fn reception_of(s: &[u8; ROW]) -> Reception
     }
 }
 
+#[tactic(auto, using(std::proofs::lemmas::Bool::Decides::nat_tests))]
 fn own_of(s: &[u8; ROW]) -> Coded
     ensures { result ≡ rule.own_by (rule.byte_at s.now) }
 {
@@ -441,6 +460,7 @@ fn own_of(s: &[u8; ROW]) -> Coded
     }
 }
 
+#[tactic(auto, using(std::proofs::lemmas::Bool::Decides::nat_tests))]
 fn progress_of(s: &[u8; ROW]) -> Progress
     ensures { result ≡ rule.progress_by (rule.byte_at s.now) }
 {
@@ -450,6 +470,7 @@ fn progress_of(s: &[u8; ROW]) -> Progress
     }
 }
 
+#[tactic(auto, using(std::proofs::lemmas::Bool::Decides::nat_tests))]
 pub fn counters_of(s: &[u8; ROW]) -> Counters
     ensures { result ≡ rule.counters_by (rule.byte_at s.now) }
 {
@@ -460,6 +481,7 @@ pub fn counters_of(s: &[u8; ROW]) -> Counters
     }
 }
 
+#[tactic(auto, using(std::proofs::lemmas::Bool::Decides::nat_tests))]
 fn effort_of(s: &[u8; ROW]) -> Effort
     ensures { result ≡ rule.effort_by (rule.byte_at s.now) }
 {
@@ -471,6 +493,7 @@ fn effort_of(s: &[u8; ROW]) -> Effort
     }
 }
 
+#[tactic(auto, using(std::proofs::lemmas::Bool::Decides::nat_tests))]
 fn service_of(s: &[u8; ROW]) -> Service
     ensures { result ≡ rule.service_by (rule.byte_at s.now) }
 {
@@ -482,6 +505,7 @@ fn service_of(s: &[u8; ROW]) -> Service
     }
 }
 
+#[tactic(auto, using(std::proofs::lemmas::Bool::Decides::nat_tests))]
 fn reply_frame_of(s: &[u8; ROW]) -> Coded
     ensures { result ≡ rule.reply_frame_by (rule.byte_at s.now) }
 {
@@ -491,6 +515,7 @@ fn reply_frame_of(s: &[u8; ROW]) -> Coded
     }
 }
 
+#[tactic(auto, using(std::proofs::lemmas::Bool::Decides::nat_tests))]
 fn reply_of(s: &[u8; ROW]) -> ImmediateReply
     ensures { result ≡ rule.reply_by (rule.byte_at s.now) }
 {
@@ -502,6 +527,7 @@ fn reply_of(s: &[u8; ROW]) -> ImmediateReply
     }
 }
 
+#[tactic(auto, using(std::proofs::lemmas::Bool::Decides::nat_tests))]
 fn period_of(s: &[u8; ROW]) -> Period
     ensures { result ≡ rule.period_by (rule.byte_at s.now) }
 {
@@ -514,6 +540,7 @@ fn period_of(s: &[u8; ROW]) -> Period
     }
 }
 
+#[tactic(auto, using(std::proofs::lemmas::Bool::Decides::nat_tests))]
 pub fn diagnosis_of(s: &[u8; ROW]) -> Diagnosis
     ensures { result ≡ rule.diagnosis_by (rule.byte_at s.now) }
 {
@@ -528,6 +555,7 @@ pub fn diagnosis_of(s: &[u8; ROW]) -> Diagnosis
 }
 
 // The state that a row says.
+#[tactic(auto, using(std::proofs::lemmas::Bool::Decides::nat_tests), unfolding(crate::specs::Row::core_of, crate::specs::Row::core_by))]
 pub fn core_of(s: &[u8; ROW]) -> Core
     ensures { result ≡ rule.core_of s.now }
 {
@@ -565,6 +593,7 @@ pub fn dominant_of(s: &[u8; ROW]) -> u32
 
 // ---- the row of a state: each writes one part, and the others stay
 
+#[tactic(auto, using(std::proofs::lemmas::Bool::Decides::nat_tests, crate::proofs::Laws::written, crate::proofs::Laws::mode_laid, crate::proofs::Laws::flag_laid), unfolding(crate::specs::Row::core_of, crate::specs::Row::core_by))]
 fn put_activity(s: &mut [u8; ROW], a: Activity)
     ensures { rule.core_of s.new ≡ setter.with_activity (rule.core_of s.old) a }
 {
@@ -574,6 +603,7 @@ fn put_activity(s: &mut [u8; ROW], a: Activity)
     s[At::WAITING] = bit(a.waiting);
 }
 
+#[tactic(auto, using(std::proofs::lemmas::Bool::Decides::nat_tests, crate::proofs::Laws::written, crate::proofs::Laws::flag_laid), unfolding(crate::specs::Row::core_of, crate::specs::Row::core_by))]
 fn put_flags(s: &mut [u8; ROW], f: Flags)
     ensures { rule.core_of s.new ≡ setter.with_report (rule.core_of s.old) (setter.with_flags (rule.core_of s.old).report f) }
 {
@@ -586,6 +616,7 @@ fn put_flags(s: &mut [u8; ROW], f: Flags)
     s[At::FLAGS + 5] = bit(f.rnok);
 }
 
+#[tactic(auto, using(std::proofs::lemmas::Bool::Decides::nat_tests, crate::proofs::Laws::written), unfolding(crate::specs::Row::core_of, crate::specs::Row::core_by))]
 fn put_report(s: &mut [u8; ROW], x: Report)
     ensures { rule.core_of s.new ≡ setter.with_report (rule.core_of s.old) x }
 {
@@ -598,6 +629,7 @@ fn put_report(s: &mut [u8; ROW], x: Report)
     put_flags(s, x.flags);
 }
 
+#[tactic(auto, using(std::proofs::lemmas::Bool::Decides::nat_tests, crate::proofs::Laws::written, crate::proofs::Laws::flag_laid), unfolding(crate::specs::Row::core_of, crate::specs::Row::core_by))]
 fn put_line(s: &mut [u8; ROW], l: Line)
     ensures { rule.core_of s.new ≡ setter.with_line (rule.core_of s.old) l }
 {
@@ -606,6 +638,7 @@ fn put_line(s: &mut [u8; ROW], l: Line)
     s[At::COUNT] = l.count;
 }
 
+#[tactic(auto, using(std::proofs::lemmas::Bool::Decides::nat_tests, crate::proofs::Laws::written, crate::proofs::Laws::flag_laid), unfolding(crate::specs::Row::core_of, crate::specs::Row::core_by))]
 pub fn put_winner(s: &mut [u8; ROW], w: Winner)
     ensures { rule.core_of s.new ≡ setter.with_reception (rule.core_of s.old) (reception_rule.with_winner (rule.core_of s.old).reception w) }
 {
@@ -617,6 +650,7 @@ pub fn put_winner(s: &mut [u8; ROW], w: Winner)
     s[At::LENGTH] = w.length;
 }
 
+#[tactic(auto, using(std::proofs::lemmas::Bool::Decides::nat_tests, crate::proofs::Laws::written, crate::proofs::Laws::phase_laid), unfolding(crate::specs::Row::core_of, crate::specs::Row::core_by))]
 pub fn put_place(s: &mut [u8; ROW], p: Place)
     ensures { rule.core_of s.new ≡ setter.with_reception (rule.core_of s.old) (reception_rule.with_place (rule.core_of s.old).reception p) }
 {
@@ -626,6 +660,7 @@ pub fn put_place(s: &mut [u8; ROW], p: Place)
     s[At::SLOT] = p.at;
 }
 
+#[tactic(auto, using(std::proofs::lemmas::Bool::Decides::nat_tests, crate::proofs::Laws::writes, crate::proofs::Laws::written, crate::proofs::Laws::writes_long, crate::proofs::Laws::heard_framed), unfolding(crate::specs::Row::core_of, crate::specs::Row::core_by))]
 pub fn put_reception(s: &mut [u8; ROW], r: Reception)
     ensures { rule.core_of s.new ≡ setter.with_reception (rule.core_of s.old) r }
 {
@@ -638,6 +673,7 @@ pub fn put_reception(s: &mut [u8; ROW], r: Reception)
     put_winner(s, r.winner);
 }
 
+#[tactic(auto, using(std::proofs::lemmas::Bool::Decides::nat_tests, crate::proofs::Laws::written, crate::proofs::Laws::halves, crate::proofs::Laws::half_back, crate::proofs::Laws::stage_laid), unfolding(crate::specs::Row::core_of, crate::specs::Row::core_by))]
 pub fn put_progress(s: &mut [u8; ROW], p: Progress)
     ensures { rule.core_of s.new ≡ setter.with_service (rule.core_of s.old) (setter.with_effort (rule.core_of s.old).service (setter.with_progress (rule.core_of s.old).service.effort p)) }
 {
@@ -647,6 +683,7 @@ pub fn put_progress(s: &mut [u8; ROW], p: Progress)
     put_half(s, At::NEXT, p.at);
 }
 
+#[tactic(auto, using(std::proofs::lemmas::Bool::Decides::nat_tests, crate::proofs::Laws::written, crate::proofs::Laws::words, crate::proofs::Laws::word_back), unfolding(crate::specs::Row::core_of, crate::specs::Row::core_by))]
 fn put_counters(s: &mut [u8; ROW], c: Counters)
     ensures { rule.core_of s.new ≡ setter.with_service (rule.core_of s.old) (setter.with_effort (rule.core_of s.old).service (setter.with_counters (rule.core_of s.old).service.effort c)) }
 {
@@ -656,6 +693,7 @@ fn put_counters(s: &mut [u8; ROW], c: Counters)
     put_word(s, At::ERRORS, c.errors.0);
 }
 
+#[tactic(auto, using(std::proofs::lemmas::Bool::Decides::nat_tests, crate::proofs::Laws::writes, crate::proofs::Laws::written, crate::proofs::Laws::writes_long, crate::proofs::Laws::own_framed), unfolding(crate::specs::Row::core_of, crate::specs::Row::core_by))]
 fn put_effort(s: &mut [u8; ROW], e: Effort)
     ensures { rule.core_of s.new ≡ setter.with_service (rule.core_of s.old) (setter.with_effort (rule.core_of s.old).service e) }
 {
@@ -668,6 +706,7 @@ fn put_effort(s: &mut [u8; ROW], e: Effort)
     put_counters(s, e.counters);
 }
 
+#[tactic(auto, using(std::proofs::lemmas::Bool::Decides::nat_tests, crate::proofs::Laws::written, crate::proofs::Laws::flag_laid), unfolding(crate::specs::Row::core_of, crate::specs::Row::core_by))]
 fn put_service(s: &mut [u8; ROW], v: Service)
     ensures { rule.core_of s.new ≡ setter.with_service (rule.core_of s.old) v }
 {
@@ -678,6 +717,7 @@ fn put_service(s: &mut [u8; ROW], v: Service)
     put_effort(s, v.effort);
 }
 
+#[tactic(auto, using(std::proofs::lemmas::Bool::Decides::nat_tests, crate::proofs::Laws::writes, crate::proofs::Laws::written, crate::proofs::Laws::writes_long, crate::proofs::Laws::halves, crate::proofs::Laws::half_back, crate::proofs::Laws::flag_laid, crate::proofs::Laws::reply_framed), unfolding(crate::specs::Row::core_of, crate::specs::Row::core_by))]
 fn put_reply(s: &mut [u8; ROW], y: ImmediateReply)
     ensures { rule.core_of s.new ≡ setter.with_reply (rule.core_of s.old) y }
 {
@@ -690,6 +730,7 @@ fn put_reply(s: &mut [u8; ROW], y: ImmediateReply)
     put_frame(s, At::REPLY, b);
 }
 
+#[tactic(auto, using(std::proofs::lemmas::Bool::Decides::nat_tests, crate::proofs::Laws::written, crate::proofs::Laws::words, crate::proofs::Laws::word_back, crate::proofs::Laws::flag_laid), unfolding(crate::specs::Row::core_of, crate::specs::Row::core_by))]
 fn put_period(s: &mut [u8; ROW], p: Period)
     ensures { rule.core_of s.new ≡ setter.with_diagnosis (rule.core_of s.old) (diagnosis_rule.with_period (rule.core_of s.old).diagnosis p) }
 {
@@ -701,6 +742,7 @@ fn put_period(s: &mut [u8; ROW], p: Period)
     s[At::FAILURE] = bit(p.failure);
 }
 
+#[tactic(auto, using(std::proofs::lemmas::Bool::Decides::nat_tests, crate::proofs::Laws::written, crate::proofs::Laws::words, crate::proofs::Laws::word_back, crate::proofs::Laws::flag_laid, crate::proofs::Laws::condition_laid), unfolding(crate::specs::Row::core_of, crate::specs::Row::core_by))]
 pub fn put_diagnosis(s: &mut [u8; ROW], x: Diagnosis)
     ensures { rule.core_of s.new ≡ setter.with_diagnosis (rule.core_of s.old) x }
 {
@@ -717,6 +759,7 @@ pub fn put_diagnosis(s: &mut [u8; ROW], x: Diagnosis)
 // ---- one number of it
 
 // The slot of the phase.
+#[tactic(auto, using(std::proofs::lemmas::Bool::Decides::nat_tests, crate::proofs::Laws::written), unfolding(crate::specs::Row::core_of, crate::specs::Row::core_by, rules::specs::Definitions::Reception::at_place))]
 pub fn put_slot(s: &mut [u8; ROW], at: u8)
     ensures { rule.core_of s.new ≡ setter.with_reception (rule.core_of s.old) (reception_rule.with_place (rule.core_of s.old).reception (reception_rule.at_place (rule.core_of s.old).reception.place.phase at)) }
 {
@@ -725,6 +768,7 @@ pub fn put_slot(s: &mut [u8; ROW], at: u8)
 }
 
 // The bits of the nibble under way.
+#[tactic(auto, using(std::proofs::lemmas::Bool::Decides::nat_tests, crate::proofs::Laws::written), unfolding(crate::specs::Row::core_of, crate::specs::Row::core_by))]
 pub fn put_bits(s: &mut [u8; ROW], bits: u8)
     ensures { rule.core_of s.new ≡ setter.with_reception (rule.core_of s.old) (reception_rule.with_bits (rule.core_of s.old).reception bits) }
 {
@@ -733,6 +777,7 @@ pub fn put_bits(s: &mut [u8; ROW], bits: u8)
 }
 
 // The whole nibbles taken.
+#[tactic(auto, using(std::proofs::lemmas::Bool::Decides::nat_tests, crate::proofs::Laws::written), unfolding(crate::specs::Row::core_of, crate::specs::Row::core_by))]
 pub fn put_nibbles(s: &mut [u8; ROW], n: u8)
     ensures { rule.core_of s.new ≡ setter.with_reception (rule.core_of s.old) (reception_rule.with_nibbles (rule.core_of s.old).reception n) }
 {
@@ -741,6 +786,7 @@ pub fn put_nibbles(s: &mut [u8; ROW], n: u8)
 }
 
 // A byte of the frame under way.
+#[tactic(auto, using(std::proofs::lemmas::Bool::Decides::nat_tests, crate::proofs::Laws::heard_byte), unfolding(crate::specs::Row::core_of, crate::specs::Row::core_by))]
 pub fn put_heard(s: &mut [u8; ROW], i: usize, b: u8)
     ensures { rule.core_of s.new ≡ setter.with_reception (rule.core_of s.old) (reception_rule.with_bytes (rule.core_of s.old).reception (set (rule.core_of s.old).reception.bytes (i % 34) b)) }
 {
@@ -749,6 +795,7 @@ pub fn put_heard(s: &mut [u8; ROW], i: usize, b: u8)
 }
 
 // Recessive slots in a row.
+#[tactic(auto, using(std::proofs::lemmas::Bool::Decides::nat_tests, crate::proofs::Laws::written), unfolding(crate::specs::Row::core_of, crate::specs::Row::core_by))]
 pub fn put_count(s: &mut [u8; ROW], n: u8)
     ensures { rule.core_of s.new ≡ setter.with_line (rule.core_of s.old) (rule.with_count (rule.core_of s.old).line n) }
 {
@@ -757,6 +804,7 @@ pub fn put_count(s: &mut [u8; ROW], n: u8)
 }
 
 // Slots of attempts.
+#[tactic(auto, using(std::proofs::lemmas::Bool::Decides::nat_tests, crate::proofs::Laws::written, crate::proofs::Laws::words, crate::proofs::Laws::word_back), unfolding(crate::specs::Row::core_of, crate::specs::Row::core_by))]
 pub fn put_slots(s: &mut [u8; ROW], n: u32)
     ensures { rule.core_of s.new ≡ setter.with_service (rule.core_of s.old) (rule.with_spent (rule.core_of s.old).service n) }
 {
@@ -765,6 +813,7 @@ pub fn put_slots(s: &mut [u8; ROW], n: u32)
 }
 
 // Sc, the last levels, and dominant slots in a row.
+#[tactic(auto, using(std::proofs::lemmas::Bool::Decides::nat_tests, crate::proofs::Laws::written, crate::proofs::Laws::words, crate::proofs::Laws::word_back, crate::proofs::Laws::flag_laid), unfolding(crate::specs::Row::core_of, crate::specs::Row::core_by))]
 pub fn put_watched(s: &mut [u8; ROW], sc: bool, levels: u8, dominant: u32)
     ensures { rule.core_of s.new ≡ setter.with_diagnosis (rule.core_of s.old) (rule.with_watched (rule.core_of s.old).diagnosis sc levels dominant) }
 {
@@ -775,6 +824,7 @@ pub fn put_watched(s: &mut [u8; ROW], sc: bool, levels: u8, dominant: u32)
 }
 
 // The row says the state.
+#[tactic(auto, using(std::proofs::lemmas::Bool::Decides::nat_tests))]
 pub fn put_core(s: &mut [u8; ROW], k: Core)
     ensures { rule.core_of s.new ≡ k }
 {
@@ -790,6 +840,7 @@ pub fn put_core(s: &mut [u8; ROW], k: Core)
 // ---- number 6
 
 // The slots of the period, by the divider that 0x02 holds.
+#[tactic(auto, using(std::proofs::lemmas::Bool::Decides::nat_tests, registers::proofs::Dividers::one_slot))]
 fn period_in_range(m: &[u8; 256], s: &[u8; ROW]) -> bool
     ensures { result ≡ leb (rule.word_at (rule.byte_at s.now) place.period) (control_rule.divider (get_or m.now register_rule.diagnosis_control 0) - 1) }
 {
@@ -797,6 +848,7 @@ fn period_in_range(m: &[u8; 256], s: &[u8; ROW]) -> bool
 }
 
 // A row a line, in the order of `ranges`.
+#[tactic(auto, using(std::proofs::lemmas::Bool::Decides::nat_tests, ranges::proofs::Rows::joined, ranges::proofs::Rows::joined_within), unfolding(rules::specs::Definitions::State::in_range, rules::specs::Definitions::State::ranges, line::specs::Frame::size, crate::specs::Row::core_of, crate::specs::Row::core_by))]
 pub fn in_range(m: &[u8; 256], s: &[u8; ROW]) -> bool
     ensures { result ≡ state_rule.in_range (answers.controller m.now (rule.core_of s.now)) }
 {

@@ -1,4 +1,6 @@
 // The sending service: choice and start (01, Sending; 000, Retries).
+#![tactic(auto)]
+
 ghost use Rattle.std.specs.Prelude.{◌≡◌};
 ghost use Rattle.rules.specs.Definitions.Service as rule;
 
@@ -6,6 +8,7 @@ use registers::Map;
 use rules::{Choice, Effort, Line, Reception, Service, Stage};
 
 // The service of channel c: its frame and MR are copied now.
+#[tactic(auto, using(std::proofs::lemmas::Bool::Decides::nat_tests), unfolding(rules::specs::Definitions::Service::chosen, rules::specs::Definitions::Service::resting))]
 fn chosen(m: &[u8; 256], c: u8) -> Service
     ensures { result ≡ rule.chosen m.now c }
 {
@@ -22,6 +25,7 @@ fn chosen(m: &[u8; 256], c: u8) -> Service
     }
 }
 
+#[tactic(auto, using(std::proofs::lemmas::Bool::Decides::nat_tests), unfolding(rules::specs::Definitions::Service::choice_of))]
 fn choice_of(m: &[u8; 256], x: Choice) -> Service
     ensures { result ≡ rule.choice_of m.now x }
 {
@@ -32,6 +36,7 @@ fn choice_of(m: &[u8; 256], x: Choice) -> Service
 }
 
 // The service of the lowest channel that is ready to send.
+#[tactic(auto, using(std::proofs::lemmas::Bool::Decides::nat_tests), unfolding(rules::specs::Definitions::Service::choose))]
 pub fn choose(m: &[u8; 256], longest: u8) -> Service
     ensures { result ≡ rule.choose m.now longest }
 {
@@ -39,6 +44,7 @@ pub fn choose(m: &[u8; 256], longest: u8) -> Service
 }
 
 // Slot k of the frame is answered: the first level of an attempt.
+#[tactic(auto, using(std::proofs::lemmas::Bool::Decides::nat_tests), unfolding(rules::specs::Definitions::Service::opened))]
 fn opened(s: Service, k: u16) -> Service
     ensures { result ≡ rule.opened s k }
 {
@@ -50,6 +56,7 @@ fn opened(s: Service, k: u16) -> Service
 }
 
 // Either type joins a clean start sequence; MT 1 starts at once on a free line.
+#[tactic(auto, using(std::proofs::lemmas::Bool::Decides::nat_tests), unfolding(rules::specs::Definitions::Service::started))]
 pub fn started(s: Service, autonomous: bool, l: Line, r: Reception) -> Service
     ensures { result ≡ rule.started s autonomous l r }
 {

@@ -1,5 +1,7 @@
 // A slot of the controller over a lent memory map: the sample is judged with its effects; then a waiting idle, the choice, the start, the answer; then the diagnosis (01, Receiving and
 // Sending; 02, Req 01 and Req 05).
+#![tactic(auto)]
+
 ghost use Rattle.std.specs.Prelude.{◌≡◌, get_or};
 ghost use Rattle.rules.specs.Definitions.Registers as registers_rule;
 ghost use Rattle.rules.specs.Definitions.Slots as rule;
@@ -12,6 +14,7 @@ use rules::{Coded, Core, CoreOutcome, ImmediateReply, Progress, Reception, Refus
 
 // ---- what follows
 
+#[tactic(auto, using(std::proofs::lemmas::Bool::Decides::nat_tests), unfolding(rules::specs::Definitions::Slots::chooses))]
 fn chooses(k: Core) -> bool
     ensures { result ≡ rule.chooses k }
 {
@@ -29,6 +32,7 @@ fn chooses(k: Core) -> bool
 }
 
 // The service of the lowest channel ready to send, and 0x05.
+#[tactic(auto, using(std::proofs::lemmas::Bool::Decides::nat_tests), unfolding(rules::specs::Definitions::Slots::choice_made))]
 fn choice_made(m: &[u8; 256], k: Core) -> Core
     ensures { result ≡ rule.choice_made m.now k }
 {
@@ -45,6 +49,7 @@ fn choice_made(m: &[u8; 256], k: Core) -> Core
     k
 }
 
+#[tactic(auto, using(std::proofs::lemmas::Bool::Decides::nat_tests), unfolding(rules::specs::Definitions::Slots::start_made))]
 fn start_made(m: &[u8; 256], k: Core) -> Core
     ensures { result ≡ rule.start_made m.now k }
 {
@@ -55,6 +60,7 @@ fn start_made(m: &[u8; 256], k: Core) -> Core
 }
 
 // An idle that waits, no frame under way, or a start sequence that has just ended: else nothing can follow.
+#[tactic(auto, using(std::proofs::lemmas::Bool::Decides::nat_tests), unfolding(crate::specs::Follow::begins))]
 fn begins(k: Core) -> bool
     ensures { result ≡ follow.begins k }
 {
@@ -69,6 +75,7 @@ fn begins(k: Core) -> bool
     true
 }
 
+#[tactic(auto, using(std::proofs::lemmas::Bool::Decides::nat_tests, crate::proofs::Ways::nothing_follows))]
 fn follows_on(m: &[u8; 256], k: Core) -> Core
     ensures { result ≡ rule.follows_on m.now k }
 {
@@ -83,6 +90,7 @@ fn follows_on(m: &[u8; 256], k: Core) -> Core
 // ---- the level for the next slot
 
 // Of a frame of the model's own.
+#[tactic(auto, using(std::proofs::lemmas::Bool::Decides::nat_tests), unfolding(crate::specs::Follow::own_level))]
 fn own_level(x: Role, p: Progress, frame: Coded, y: ImmediateReply) -> u8
     ensures { result ≡ follow.own_level x p frame y }
 {
@@ -95,6 +103,7 @@ fn own_level(x: Role, p: Progress, frame: Coded, y: ImmediateReply) -> u8
     }
 }
 
+#[tactic(auto, using(std::proofs::lemmas::Bool::Decides::nat_tests), unfolding(crate::specs::Follow::driven, crate::specs::Follow::driven_as))]
 fn drives(p: Progress, here: Reception, frame: Coded, y: ImmediateReply) -> u8
     ensures { result ≡ follow.driven p here frame y }
 {
@@ -108,7 +117,7 @@ fn drives(p: Progress, here: Reception, frame: Coded, y: ImmediateReply) -> u8
 // ---- the slot
 
 // What a slot does but for the diagnosis; the level for the next slot; whether the model's own frame turns from dominant to recessive, and whether a good frame ends.
-#[derive(Drop)]
+#[derive(Clone, Copy)]
 struct Motion {
     core: Core,
     level: u8,
@@ -117,6 +126,7 @@ struct Motion {
 }
 
 // Whether the model drives a dominant level of a frame of its own; asked only where ETIP is set.
+#[tactic(auto, using(std::proofs::lemmas::Bool::Decides::nat_tests), unfolding(crate::specs::Follow::own_dominant))]
 fn own_dominant(control: u8, p: Progress, here: Reception, frame: Coded, y: ImmediateReply) -> bool
     ensures { result ≡ follow.own_dominant control p here frame y }
 {
@@ -127,6 +137,7 @@ fn own_dominant(control: u8, p: Progress, here: Reception, frame: Coded, y: Imme
     false
 }
 
+#[tactic(auto, using(std::proofs::lemmas::Bool::Decides::nat_tests, crate::proofs::Ways::driven_is, crate::proofs::Diagnosed::turning_as), unfolding(rules::specs::Definitions::Slots::sampled_slot, rules::specs::Definitions::Slots::judged_slot, judging::specs::Ordinary::memory_after, judging::specs::Ordinary::core_after, rules::specs::Definitions::Slots::ended))]
 fn active_slot(m: &mut [u8; 256], k: Core, control: u8, v: u8) -> Motion
     ensures state { answers.controller m.new result.core ≡ rule.sampled_slot (answers.controller m.old k) v }
     ensures level { result.level ≡ rule.drives result.core }
@@ -151,6 +162,7 @@ fn active_slot(m: &mut [u8; 256], k: Core, control: u8, v: u8) -> Motion
 }
 
 // Idle: nothing moves, and the level is recessive.
+#[tactic(auto, using(std::proofs::lemmas::Bool::Decides::nat_tests), unfolding(crate::specs::Follow::moved_slot, crate::specs::Follow::moved_level, crate::specs::Follow::moved_turns, crate::specs::Follow::moved_good))]
 fn moved(m: &mut [u8; 256], k: Core, control: u8, v: u8) -> Motion
     ensures state { answers.controller m.new result.core ≡ follow.moved_slot (answers.controller m.old k) v }
     ensures level { result.level ≡ follow.moved_level k result.core }
@@ -169,6 +181,7 @@ fn moved(m: &mut [u8; 256], k: Core, control: u8, v: u8) -> Motion
 }
 
 // TXD after the transmit inversion.
+#[tactic(auto, using(std::proofs::lemmas::Bool::Decides::nat_tests), unfolding(rules::specs::Definitions::Answers::answer_lent, rules::specs::Definitions::Answers::refused_by, rules::specs::Definitions::Answers::value_of, rules::specs::Definitions::Answers::number, rules::specs::Definitions::Run::accept))]
 fn answered(m: &[u8; 256], k: Core, level: u8) -> CoreOutcome
     ensures { answers.answer_lent result m.now ≡ run.accept (registers_rule.transmitted (get_or m.now registers_rule.line_control 0) level) (answers.controller m.now k) }
 {
@@ -179,6 +192,7 @@ fn answered(m: &[u8; 256], k: Core, level: u8) -> CoreOutcome
 }
 
 // Idle or active: the sample of the input selected as the slot begins; then the diagnosis counts the slot's edges.
+#[tactic(auto, using(std::proofs::lemmas::Bool::Decides::nat_tests, crate::proofs::Diagnosed::awake_as))]
 fn awake_slot(m: &mut [u8; 256], k: Core, levels: u16) -> CoreOutcome
     ensures { answers.answer_lent result m.new ≡ follow.awake_slot (answers.controller m.old k) levels }
 {
@@ -193,6 +207,7 @@ fn awake_slot(m: &mut [u8; 256], k: Core, levels: u16) -> CoreOutcome
 }
 
 // A slot: 6, 5; idle and asleep give recessive.
+#[tactic(auto, using(std::proofs::lemmas::Bool::Decides::nat_tests, crate::proofs::Diagnosed::asleep_not_active), unfolding(rules::specs::Definitions::Answers::answer_lent, rules::specs::Definitions::Answers::number, rules::specs::Definitions::Answers::refused_by, rules::specs::Definitions::Answers::value_of, rules::specs::Definitions::Run::slot, rules::specs::Definitions::Run::refuse, rules::specs::Definitions::Run::unless_refused, rules::specs::Definitions::Run::rested_slot, rules::specs::Definitions::Slots::resting_slot, crate::specs::Follow::awake_slot))]
 pub fn slot_on(m: &mut [u8; 256], k: Core, levels: u16) -> CoreOutcome
     ensures { answers.answer_lent result m.new ≡ run.slot (answers.controller m.old k) levels }
 {

@@ -1,4 +1,6 @@
 // The state but for the memory map: its modes, reset, a waiting idle (01, Memory map).
+#![tactic(auto)]
+
 ghost use Rattle.std.specs.Prelude.{◌≡◌};
 ghost use Rattle.rules.specs.Definitions.State as rule;
 ghost use Rattle.rules.specs.Definitions.Service as service_rule;
@@ -8,6 +10,7 @@ use rules::{Activity, Coded, Core, ImmediateReply, Mode, Service};
 
 // ---- modes
 
+#[tactic(auto, using(std::proofs::lemmas::Bool::Decides::nat_tests), unfolding(rules::specs::Definitions::State::in_mode))]
 fn in_mode(mode: Mode, waiting: bool) -> Activity
     ensures { result ≡ rule.in_mode mode waiting }
 {
@@ -15,6 +18,7 @@ fn in_mode(mode: Mode, waiting: bool) -> Activity
 }
 
 // There is a service: TXG.
+#[tactic(auto, using(std::proofs::lemmas::Bool::Decides::nat_tests), unfolding(rules::specs::Definitions::State::serving))]
 pub fn serving(s: Service) -> bool
     ensures { result ≡ rule.serving s }
 {
@@ -25,6 +29,7 @@ pub fn serving(s: Service) -> bool
 // ---- reset
 
 // Idle mode, no frame, no service, the registers at their reset values.
+#[tactic(auto, using(std::proofs::lemmas::Bool::Decides::nat_tests), unfolding(rules::specs::Definitions::State::reset_core))]
 pub fn reset_core() -> Core
     ensures { result ≡ rule.reset_core }
 {
@@ -40,6 +45,7 @@ pub fn reset_core() -> Core
 }
 
 // No immediate reply under way.
+#[tactic(auto, using(std::proofs::lemmas::Bool::Decides::nat_tests), unfolding(rules::specs::Definitions::Service::no_reply, rules::specs::Definitions::Service::resting))]
 pub fn no_reply() -> ImmediateReply
     ensures { result ≡ service_rule.no_reply }
 {
@@ -57,6 +63,7 @@ pub fn no_reply() -> ImmediateReply
 // ---- IDLE
 
 // Idle acts: the frame under way is dropped.
+#[tactic(auto, using(std::proofs::lemmas::Bool::Decides::nat_tests), unfolding(rules::specs::Definitions::State::idled))]
 fn idled(k: Core) -> Core
     ensures { result ≡ rule.idled k }
 {
@@ -68,6 +75,7 @@ fn idled(k: Core) -> Core
 }
 
 // A waiting idle acts once there is no service.
+#[tactic(auto, using(std::proofs::lemmas::Bool::Decides::nat_tests), unfolding(rules::specs::Definitions::State::idle_due))]
 pub fn idle_due(k: Core) -> Core
     ensures { result ≡ rule.idle_due k }
 {

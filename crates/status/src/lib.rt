@@ -1,4 +1,6 @@
 // The registers that the controller itself writes, as bytes; a write to 0x0B, and the interrupt line (01, Memory map; 000, Control and Status Registers).
+#![tactic(auto)]
+
 ghost use Rattle.std.specs.Prelude.{◌≡◌, ◌+◌, ◌*◌, ◌≤◌};
 ghost use Rattle.rules.specs.Definitions.Registers as rule;
 ghost use Rattle.rules.specs.Definitions.Host as host_rule;
@@ -8,6 +10,7 @@ use registers::Map;
 use rules::{Controller, Flags, Retries};
 
 // A flag as a bit.
+#[tactic(auto, using(std::proofs::lemmas::Bool::Decides::nat_tests), unfolding(rules::specs::Definitions::Registers::bit))]
 fn bit(flag: bool) -> u8
     ensures value { result ≡ rule.bit flag }
     ensures range { result ≤ 1 }
@@ -19,6 +22,7 @@ fn bit(flag: bool) -> u8
 }
 
 // SPG, IDG and Sc of 0x04.
+#[tactic(auto, using(std::proofs::lemmas::Bool::Decides::nat_tests))]
 fn high_bits(asleep: bool, idle: bool, sc: bool) -> u8
     ensures value { result ≡ rule.bit asleep * 64 + rule.bit idle * 32 + rule.bit sc * 16 }
     ensures range { result ≤ 112 }
@@ -27,6 +31,7 @@ fn high_bits(asleep: bool, idle: bool, sc: bool) -> u8
 }
 
 // The byte of 0x04.
+#[tactic(auto, using(std::proofs::lemmas::Bool::Decides::nat_tests), unfolding(rules::specs::Definitions::Registers::line_status))]
 pub fn line_status(asleep: bool, idle: bool, x: Diagnosis, txg: bool, rxg: bool) -> u8
     ensures { result ≡ rule.line_status asleep idle x txg rxg }
 {
@@ -39,6 +44,7 @@ pub fn line_status(asleep: bool, idle: bool, x: Diagnosis, txg: bool, rxg: bool)
 }
 
 // The byte of 0x05 and of 0x06.
+#[tactic(auto, using(std::proofs::lemmas::Bool::Decides::nat_tests), unfolding(rules::specs::Definitions::Registers::retries_byte))]
 pub fn retries_byte(r: Retries) -> u8
     ensures { result ≡ rule.retries_byte r }
 {
@@ -46,6 +52,7 @@ pub fn retries_byte(r: Retries) -> u8
 }
 
 // The byte of 0x09.
+#[tactic(auto, using(std::proofs::lemmas::Bool::Decides::nat_tests), unfolding(rules::specs::Definitions::Registers::interrupt_status))]
 pub fn interrupt_status(f: Flags) -> u8
     ensures { result ≡ rule.interrupt_status f }
 {
@@ -58,6 +65,7 @@ pub fn interrupt_status(f: Flags) -> u8
 }
 
 // A status bit, unless it is reset.
+#[tactic(auto, using(std::proofs::lemmas::Bool::Decides::nat_tests), unfolding(rules::specs::Definitions::Registers::unless))]
 fn unless(flag: bool, reset: bool) -> bool
     ensures { result ≡ rule.unless flag reset }
 {
@@ -68,6 +76,7 @@ fn unless(flag: bool, reset: bool) -> bool
 }
 
 // The status bits once a value is written to 0x0B.
+#[tactic(auto, using(std::proofs::lemmas::Bool::Decides::nat_tests, rules::proofs::Bits::masked), unfolding(rules::specs::Definitions::Registers::cleared))]
 pub fn cleared(f: Flags, value: u8) -> Flags
     ensures { result ≡ rule.cleared f value }
 {
@@ -82,6 +91,7 @@ pub fn cleared(f: Flags, value: u8) -> Flags
 }
 
 // Whether status and enable share a one.
+#[tactic(auto, using(std::proofs::lemmas::Bool::Decides::nat_tests), unfolding(rules::specs::Definitions::Registers::asserted))]
 pub fn asserted(f: Flags, enable: u8) -> bool
     ensures { result ≡ rule.asserted f enable }
 {
@@ -89,6 +99,7 @@ pub fn asserted(f: Flags, enable: u8) -> bool
 }
 
 // The interrupt line.
+#[tactic(auto, using(std::proofs::lemmas::Bool::Decides::nat_tests), unfolding(rules::specs::Definitions::Host::interrupt_line))]
 pub fn interrupt(c: Controller) -> bool
     ensures { result ≡ host_rule.interrupt_line c }
 {

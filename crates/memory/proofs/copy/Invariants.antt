@@ -1,10 +1,7 @@
 use Prim.Native.Nat.{◌≤◌, ◌-◌, ◌+◌}
-use native.Mathlib.Nat.{sub-zero}
-use mathlib.Core.Path.{◌≡◌, sym, ◌∙◌}
-use native.Mathlib.Omega.{arith}
+use mathlib.Core.Path.{◌≡◌}
 use lib.Seq.{sets}
 use Rattle.rules.specs.Definitions.Mailbox.{mailbox_bytes}
-use Rattle.memory.proofs.Laying.{copy_next, copy_end}
 use Rattle.memory.proofs.copy.Given as goal
 
 abbrev pub invariant-loop-k : goal.invariant-loop-k

@@ -1,9 +1,7 @@
 use Prim.Native.Nat.{◌≤◌, ◌-◌, ◌+◌}
-use mathlib.Core.Path.{◌≡◌, refl, sym, ◌∙◌}
-use native.Mathlib.Omega.{arith}
+use mathlib.Core.Path.{◌≡◌}
 use lib.ListN.{length, drop}
 use Rattle.rules.specs.Definitions.Mailbox.{laid_from}
-use Rattle.memory.proofs.Laying.{lay_next, lay_end}
 use Rattle.memory.proofs.lay.Given as goal
 
 abbrev pub invariant-loop-k : goal.invariant-loop-k

@@ -1,5 +1,4 @@
 use Prim.Native.Nat.{◌+◌, ◌-◌}
-use borrow.Author.Rules.{rules}
 use borrow.Kind.Array.{e_int, good_length}
 use native.Mathlib.Omega.{arith}
 use mathlib.Core.Path.{◌≡◌}
