@@ -1,4 +1,6 @@
 // Pin reset and host access by value. Each answers what the step rule says (01, Numbers refused; Session and listing).
+#![tactic(auto)]
+
 ghost use Rattle.std.specs.Prelude.{◌≡◌};
 ghost use Rattle.rules.specs.Definitions.Run as run;
 ghost use Rattle.rules.specs.Definitions.Answers as answers;
@@ -6,6 +8,7 @@ ghost use Rattle.rules.specs.declared.Event.TheVariants as event;
 
 use rules::{Controller, Outcome};
 
+#[tactic(auto, using(std::proofs::lemmas::Bool::Decides::nat_tests), unfolding(rules::specs::Definitions::Answers::answer_of, rules::specs::Definitions::Answers::answer_lent, rules::specs::Definitions::Run::step))]
 pub fn pin_reset(c: Controller) -> Outcome
     ensures { answers.answer_of result ≡ run.step c event.Reset }
 {
@@ -17,6 +20,7 @@ pub fn pin_reset(c: Controller) -> Outcome
     Outcome { reply, next: t }
 }
 
+#[tactic(auto, using(std::proofs::lemmas::Bool::Decides::nat_tests), unfolding(rules::specs::Definitions::Answers::answer_of, rules::specs::Definitions::Answers::answer_lent, rules::specs::Definitions::Run::step))]
 pub fn host_write(c: Controller, address: u16, value: u16) -> Outcome
     ensures { answers.answer_of result ≡ run.step c (event.Write address value) }
 {
@@ -28,6 +32,7 @@ pub fn host_write(c: Controller, address: u16, value: u16) -> Outcome
     Outcome { reply, next: t }
 }
 
+#[tactic(auto, using(std::proofs::lemmas::Bool::Decides::nat_tests), unfolding(rules::specs::Definitions::Answers::answer_of, rules::specs::Definitions::Answers::answer_lent, rules::specs::Definitions::Run::step))]
 pub fn host_read(c: Controller, address: u16) -> Outcome
     ensures { answers.answer_of result ≡ run.step c (event.Read address) }
 {

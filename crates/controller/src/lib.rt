@@ -1,5 +1,7 @@
 // The controller by value, its six calls in one place: fresh and slot stand here; pin reset, host write and host read come from access, the interrupt line from status.
 // Each answers what the step rule says (01, Numbers refused; Session and listing).
+#![tactic(auto)]
+
 ghost use Rattle.std.specs.Prelude.{◌≡◌};
 ghost use Rattle.rules.specs.Definitions.Run as run;
 ghost use Rattle.rules.specs.Definitions.Answers as answers;
@@ -11,6 +13,7 @@ use rules::{Controller, Outcome};
 pub use status::interrupt;
 
 // A fresh controller: a reset one with zero channels and mailbox.
+#[tactic(auto, using(std::proofs::lemmas::Bool::Decides::nat_tests), unfolding(rules::specs::Definitions::Run::fresh, rules::specs::Definitions::Host::reset_all))]
 pub fn fresh() -> Controller
     ensures { result ≡ run.fresh }
 {
@@ -20,6 +23,7 @@ pub fn fresh() -> Controller
     }
 }
 
+#[tactic(auto, using(std::proofs::lemmas::Bool::Decides::nat_tests), unfolding(rules::specs::Definitions::Answers::answer_of, rules::specs::Definitions::Answers::answer_lent, rules::specs::Definitions::Run::step))]
 pub fn slot(c: Controller, levels: u16) -> Outcome
     ensures { answers.answer_of result ≡ run.step c (event.Slot levels) }
 {

@@ -1,4 +1,6 @@
 // The ordinary slot, in place over the lent row: the map does not change, and nothing is delivered, ended, chosen or replied to (01, Receiving and Sending; 02, Req 05).
+#![tactic(auto)]
+
 ghost use Rattle.std.specs.Prelude.{◌≡◌, true, false, not, List, ℕ, ◌+◌, ◌%◌, ◌≤◌, ◌<◌, eqb, get_or};
 ghost use Rattle.line.specs.Bits.{pick};
 ghost use Rattle.line.specs.LineCode as code;
@@ -27,7 +29,7 @@ use row::At;
 use rules::{Choice, Phase, Place, Progress, Stage};
 
 // What becomes of the sample: not ordinary; the line is counted, with no frame under way; the frame is followed, and whether it is one that the model sends.
-#[derive(Drop)]
+#[derive(Clone, Copy)]
 enum Way {
     Other,
     Counts,
@@ -35,7 +37,7 @@ enum Way {
 }
 
 // Whether the slot is ordinary; the level for the next slot; whether the model's own frame turns from dominant to recessive, asked only where ETIP is set.
-#[derive(Drop)]
+#[derive(Clone, Copy)]
 struct Step {
     taken: bool,
     level: u8,
@@ -43,7 +45,7 @@ struct Step {
 }
 
 // TXD for the next slot; or the slot is not ordinary, and nothing has changed.
-#[derive(Drop)]
+#[derive(Clone, Copy)]
 pub enum Taken {
     Drives(u8),
     Other,
@@ -60,6 +62,7 @@ fn wide(x: u8) -> u16
 // ---- the frame is followed
 
 // The first slot of a phase, with no bits.
+#[tactic(auto, using(std::proofs::lemmas::Bool::Decides::nat_tests), unfolding(rules::specs::Definitions::Reception::entered, rules::specs::Definitions::Reception::at_place))]
 fn enter(s: &mut [u8; row::ROW], phase: Phase)
     ensures { row_rule.core_of s.new ≡ setter.with_reception (row_rule.core_of s.old) (reception_rule.entered (row_rule.core_of s.old).reception phase) }
 {
@@ -68,6 +71,7 @@ fn enter(s: &mut [u8; row::ROW], phase: Phase)
 }
 
 // The winner is taken where four nibbles are whole.
+#[tactic(auto, using(std::proofs::lemmas::Bool::Decides::nat_tests), unfolding(rules::specs::Definitions::Reception::winner_taken, row::specs::Row::core_of, row::specs::Row::core_by))]
 fn name_winner(m: &[u8; 256], s: &mut [u8; row::ROW])
     ensures { row_rule.core_of s.new ≡ setter.with_reception (row_rule.core_of s.old) (pick (eqb (row_rule.core_of s.old).reception.nibbles 4) (reception_rule.winner_taken (row_rule.core_of s.old).reception m.now) (row_rule.core_of s.old).reception) }
 {
@@ -78,6 +82,7 @@ fn name_winner(m: &[u8; 256], s: &mut [u8; row::ROW])
 }
 
 // One bit more of the nibble under way or of the acknowledge.
+#[tactic(auto, using(std::proofs::lemmas::Bool::Decides::nat_tests), unfolding(rules::specs::Definitions::Reception::bit_taken, rules::specs::Definitions::Reception::moved, row::specs::Row::core_of, row::specs::Row::core_by))]
 fn take_bit(s: &mut [u8; row::ROW], v: u8)
     requires { row_rule.byte_at s.old 6 < 255 }
     ensures { row_rule.core_of s.new ≡ setter.with_reception (row_rule.core_of s.old) (reception_rule.bit_taken (row_rule.core_of s.old).reception v) }
@@ -89,6 +94,7 @@ fn take_bit(s: &mut [u8; row::ROW], v: u8)
 }
 
 // The four bits that were taken, laid behind the whole nibbles.
+#[tactic(auto, using(std::proofs::lemmas::Bool::Decides::nat_tests, row::proofs::Laws::byte_of), unfolding(rules::specs::Definitions::Reception::bits_laid, rules::specs::Definitions::Reception::with_nibble, row::specs::Row::core_of, row::specs::Row::core_by))]
 fn lay_nibble(s: &mut [u8; row::ROW])
     ensures { row_rule.core_of s.new ≡ setter.with_reception (row_rule.core_of s.old) (reception_rule.bits_laid (row_rule.core_of s.old).reception) }
 {
@@ -104,6 +110,7 @@ fn lay_nibble(s: &mut [u8; row::ROW])
 }
 
 // One nibble more; the count stops at its largest.
+#[tactic(auto, using(std::proofs::lemmas::Bool::Decides::nat_tests), unfolding(rules::specs::Definitions::Reception::more_nibbles))]
 fn more_nibbles(n: u8) -> u8
     ensures { result ≡ reception_rule.more_nibbles n }
 {
@@ -114,6 +121,7 @@ fn more_nibbles(n: u8) -> u8
 }
 
 // A nibble closed by a proper pair.
+#[tactic(auto, using(std::proofs::lemmas::Bool::Decides::nat_tests, crate::proofs::Named::nibble_named), unfolding(rules::specs::Definitions::Reception::nibble_taken, rules::specs::Definitions::Reception::entered, row::specs::Row::core_of, row::specs::Row::core_by))]
 fn take_nibble(m: &[u8; 256], s: &mut [u8; row::ROW])
     ensures { row_rule.core_of s.new ≡ setter.with_reception (row_rule.core_of s.old) (rule.named m.now (reception_rule.nibble_taken (row_rule.core_of s.old).reception)) }
 {
@@ -125,6 +133,7 @@ fn take_nibble(m: &[u8; 256], s: &mut [u8; row::ROW])
 }
 
 // The end of data.
+#[tactic(auto, using(std::proofs::lemmas::Bool::Decides::nat_tests), unfolding(rules::specs::Definitions::Reception::data_ended, rules::specs::Definitions::Reception::entered))]
 fn end_data(s: &mut [u8; row::ROW])
     ensures { row_rule.core_of s.new ≡ setter.with_reception (row_rule.core_of s.old) (reception_rule.data_ended (row_rule.core_of s.old).reception) }
 {
@@ -132,6 +141,7 @@ fn end_data(s: &mut [u8; row::ROW])
     enter(s, Phase::Acknowledge);
 }
 
+#[tactic(auto, using(std::proofs::lemmas::Bool::Decides::nat_tests, crate::proofs::Named::start_moves, crate::proofs::Named::start_enters), unfolding(rules::specs::Definitions::Reception::moved, rules::specs::Definitions::Reception::entered, row::specs::Row::core_of, row::specs::Row::core_by))]
 fn follow_start(m: &[u8; 256], s: &mut [u8; row::ROW])
     ensures { row_rule.core_of s.new ≡ setter.with_reception (row_rule.core_of s.old) (rule.named m.now (reception_rule.follow_start (row_rule.core_of s.old).reception)) }
 {
@@ -144,6 +154,7 @@ fn follow_start(m: &[u8; 256], s: &mut [u8; row::ROW])
     name_winner(m, s);
 }
 
+#[tactic(auto, using(std::proofs::lemmas::Bool::Decides::nat_tests, crate::proofs::Named::body_bit, crate::proofs::Named::body_ends, crate::proofs::Named::body_nibble), unfolding(row::specs::Row::core_of, row::specs::Row::core_by))]
 fn follow_body(m: &[u8; 256], s: &mut [u8; row::ROW], v: u8)
     ensures { row_rule.core_of s.new ≡ setter.with_reception (row_rule.core_of s.old) (rule.named m.now (reception_rule.follow_body (row_rule.core_of s.old).reception v)) }
 {
@@ -158,6 +169,7 @@ fn follow_body(m: &[u8; 256], s: &mut [u8; row::ROW], v: u8)
     take_nibble(m, s);
 }
 
+#[tactic(auto, using(std::proofs::lemmas::Bool::Decides::nat_tests), unfolding(rules::specs::Definitions::Reception::follow_acknowledge, row::specs::Row::core_of, row::specs::Row::core_by))]
 fn follow_acknowledge(s: &mut [u8; row::ROW], v: u8)
     ensures { row_rule.core_of s.new ≡ setter.with_reception (row_rule.core_of s.old) (reception_rule.follow_acknowledge (row_rule.core_of s.old).reception v) }
 {
@@ -168,6 +180,7 @@ fn follow_acknowledge(s: &mut [u8; row::ROW], v: u8)
     enter(s, Phase::End);
 }
 
+#[tactic(auto, using(std::proofs::lemmas::Bool::Decides::nat_tests), unfolding(rules::specs::Definitions::Reception::follow_end, rules::specs::Definitions::Reception::moved, row::specs::Row::core_of, row::specs::Row::core_by))]
 fn follow_end(s: &mut [u8; row::ROW])
     ensures { row_rule.core_of s.new ≡ setter.with_reception (row_rule.core_of s.old) (reception_rule.follow_end (row_rule.core_of s.old).reception) }
 {
@@ -178,6 +191,7 @@ fn follow_end(s: &mut [u8; row::ROW])
 }
 
 // The frame once a sample that is no fault is taken, and its winner in the last command slot.
+#[tactic(auto, using(std::proofs::lemmas::Bool::Decides::nat_tests, crate::proofs::Named::begun_named, crate::proofs::Named::acknowledge_named, crate::proofs::Named::end_named, crate::proofs::Named::end_phase), unfolding(rules::specs::Definitions::Slots::reception_judged, rules::specs::Definitions::Hearing::reception_after, rules::specs::Definitions::Reception::followed, rules::specs::Definitions::Reception::follow_in, crate::specs::Ways::named, row::specs::Row::core_of, row::specs::Row::core_by))]
 fn follow(m: &[u8; 256], s: &mut [u8; row::ROW], v: u8)
     ensures { row_rule.core_of s.new ≡ setter.with_reception (row_rule.core_of s.old) (slots_rule.reception_judged m.now hearings.Follows (row_rule.core_of s.old).reception v) }
 {
@@ -194,6 +208,7 @@ fn follow(m: &[u8; 256], s: &mut [u8; row::ROW], v: u8)
 // ---- receiving
 
 // Whether a sample of the body is neither the end of data, nor a fault, nor R/W 1, behind which a reply may begin.
+#[tactic(auto, using(std::proofs::lemmas::Bool::Decides::nat_tests), unfolding(crate::specs::Ways::body_goes, row::specs::Row::core_of, row::specs::Row::core_by))]
 fn body_goes(s: &[u8; row::ROW], v: u8) -> bool
     ensures { result ≡ rule.body_goes (row_rule.core_of s.now).reception v }
 {
@@ -204,6 +219,7 @@ fn body_goes(s: &[u8; row::ROW], v: u8) -> bool
 }
 
 // Whether the model drives the acknowledge.
+#[tactic(auto, using(std::proofs::lemmas::Bool::Decides::nat_tests), unfolding(rules::specs::Definitions::Hearing::acknowledges, rules::specs::Definitions::Hearing::fits, row::specs::Row::core_of, row::specs::Row::core_by))]
 fn acknowledges(s: &[u8; row::ROW]) -> bool
     ensures { result ≡ hearing_rule.acknowledges (row_rule.core_of s.now).reception }
 {
@@ -217,6 +233,7 @@ fn acknowledges(s: &[u8; row::ROW]) -> bool
 }
 
 // Whether an acknowledge of 10 or 11 is right; 00 and 01 are not.
+#[tactic(auto, using(std::proofs::lemmas::Bool::Decides::nat_tests), unfolding(crate::specs::Ways::acknowledge_goes, row::specs::Row::core_of, row::specs::Row::core_by))]
 fn acknowledge_goes(s: &[u8; row::ROW], v: u8) -> bool
     ensures { result ≡ rule.acknowledge_goes (row_rule.core_of s.now).reception v }
 {
@@ -233,6 +250,7 @@ fn acknowledge_goes(s: &[u8; row::ROW], v: u8) -> bool
 }
 
 // Whether a start, an end of frame goes on.
+#[tactic(auto, using(std::proofs::lemmas::Bool::Decides::nat_tests), unfolding(crate::specs::Ways::end_goes, row::specs::Row::core_of, row::specs::Row::core_by))]
 fn end_goes(s: &[u8; row::ROW], v: u8) -> bool
     ensures { result ≡ rule.end_goes (row_rule.core_of s.now).reception v }
 {
@@ -240,6 +258,7 @@ fn end_goes(s: &[u8; row::ROW], v: u8) -> bool
 }
 
 // A service that waits joins behind the start: its last slot is not ordinary then.
+#[tactic(auto, using(std::proofs::lemmas::Bool::Decides::nat_tests, crate::proofs::Tests::rests, crate::proofs::Tests::either), unfolding(crate::specs::Ways::start_goes, rules::specs::Definitions::State::serving, rules::specs::Definitions::Attempt::in_service, row::specs::Row::core_of, row::specs::Row::core_by))]
 fn start_goes(s: &[u8; row::ROW], v: u8) -> bool
     ensures { result ≡ rule.start_goes (row_rule.core_of s.now).reception (not (state_rule.serving (row_rule.core_of s.now).service)) v }
 {
@@ -251,6 +270,7 @@ fn start_goes(s: &[u8; row::ROW], v: u8) -> bool
 }
 
 // Whether the frame of another module goes on.
+#[tactic(auto, using(std::proofs::lemmas::Bool::Decides::nat_tests, crate::proofs::Named::end_phase), unfolding(crate::specs::Ways::frame_goes, crate::specs::Ways::goes_in, row::specs::Row::core_of, row::specs::Row::core_by))]
 fn frame_goes(s: &[u8; row::ROW], v: u8) -> bool
     ensures { result ≡ rule.frame_goes (row_rule.core_of s.now) v }
 {
@@ -265,6 +285,7 @@ fn frame_goes(s: &[u8; row::ROW], v: u8) -> bool
 }
 
 // The level that a receiver drives.
+#[tactic(auto, using(std::proofs::lemmas::Bool::Decides::nat_tests, crate::proofs::Named::recessive), unfolding(rules::specs::Definitions::Hearing::receiver_level, rules::specs::Definitions::Hearing::receiver_in, rules::specs::Definitions::Hearing::acknowledge_level, row::specs::Row::core_of, row::specs::Row::core_by))]
 fn receiver_level(s: &[u8; row::ROW]) -> u8
     ensures { result ≡ hearing_rule.receiver_level (row_rule.core_of s.now).reception }
 {
@@ -282,6 +303,7 @@ fn receiver_level(s: &[u8; row::ROW]) -> u8
 
 // ---- no frame under way
 
+#[tactic(auto, using(std::proofs::lemmas::Bool::Decides::nat_tests), unfolding(crate::specs::Ways::is_nothing))]
 fn nobody_ready(m: &[u8; 256]) -> bool
     ensures { result ≡ rule.is_nothing (channels_rule.lowest_ready m.now longest.capacity) }
 {
@@ -291,6 +313,7 @@ fn nobody_ready(m: &[u8; 256]) -> bool
     }
 }
 
+#[tactic(auto, using(std::proofs::lemmas::Bool::Decides::nat_tests, crate::proofs::Tests::rests, crate::proofs::Tests::is_nothing_lem, crate::proofs::OwnFrame::and_both), unfolding(crate::specs::Ways::Judged, crate::specs::Ways::Carries, rules::specs::Definitions::State::serving, rules::specs::Definitions::Attempt::in_service, row::specs::Row::core_of, row::specs::Row::core_by))]
 fn quiet_way(m: &[u8; 256], s: &[u8; row::ROW], v: u8) -> Way
     requires listens { rule.Listens (row_rule.core_of s.now) }
     requires quiet { reception_rule.under_way (row_rule.core_of s.now).reception.place ≡ false }
@@ -310,6 +333,7 @@ fn quiet_way(m: &[u8; 256], s: &[u8; row::ROW], v: u8) -> Way
 }
 
 // The line is counted; a service that waits opens its attempt on a free line.
+#[tactic(auto, using(std::proofs::lemmas::Bool::Decides::nat_tests, crate::proofs::Moving::counted_moves, crate::proofs::Moving::opening, crate::proofs::Moving::staying, crate::proofs::Moving::opened_level, crate::proofs::Moving::quiet_level, crate::proofs::Tests::listening, crate::proofs::OwnFrame::and_both, crate::proofs::Effects::count_alone), unfolding(rules::specs::Definitions::Attempt::waits, rules::specs::Definitions::Attempt::is_waiting, rules::specs::Definitions::Attempt::drives_frame, rules::specs::Definitions::Service::opened, rules::specs::Definitions::Attempt::at_stage, row::specs::Row::core_of, row::specs::Row::core_by))]
 fn count(m: &[u8; 256], s: &mut [u8; row::ROW], v: u8) -> Step
     requires counting { rule.Counting m.now (row_rule.core_of s.old) v }
     requires active { state_rule.is_active (row_rule.core_of s.old).activity.mode ≡ true }
@@ -344,6 +368,7 @@ fn count(m: &[u8; 256], s: &mut [u8; row::ROW], v: u8) -> Step
 // ---- sending
 
 // A nibble of the frame to be sent, the high half of a byte first.
+#[tactic(auto, using(std::proofs::lemmas::Bool::Decides::nat_tests, row::proofs::Laws::byte_of), unfolding(driver::specs::Driver::nibble_at, row::specs::Row::core_of, row::specs::Row::core_by))]
 fn nibble_at(s: &[u8; row::ROW], i: u16) -> u8
     requires { i < 68 }
     ensures value { result ≡ driver_rule.nibble_at (row_rule.core_of s.now).service.effort.frame.bytes i }
@@ -357,6 +382,7 @@ fn nibble_at(s: &[u8; row::ROW], i: u16) -> u8
 }
 
 // A slot of the five of a nibble.
+#[tactic(auto, using(std::proofs::lemmas::Bool::Decides::nat_tests, crate::proofs::Tests::slot_0, crate::proofs::Tests::slot_1, crate::proofs::Tests::slot_2, crate::proofs::Tests::slot_3, crate::proofs::Tests::slot_4))]
 fn pattern_level(nibble: u8, j: u16) -> u8
     requires nibble_bound { nibble < 16 }
     requires slot { j < 5 }
@@ -371,6 +397,7 @@ fn pattern_level(nibble: u8, j: u16) -> u8
     }
 }
 
+#[tactic(auto, using(std::proofs::lemmas::Bool::Decides::nat_tests), unfolding(driver::specs::Driver::slot_coded))]
 fn slot_coded(s: &[u8; row::ROW], k: u16) -> u8
     requires { k < 338 }
     ensures { result ≡ driver_rule.slot_coded (row_rule.core_of s.now).service.effort.frame.bytes k }
@@ -379,6 +406,7 @@ fn slot_coded(s: &[u8; row::ROW], k: u16) -> u8
 }
 
 // The level of slot k of the frame to be sent.
+#[tactic(auto, using(std::proofs::lemmas::Bool::Decides::nat_tests, crate::proofs::OwnFrame::own_level), unfolding(row::specs::Row::core_of, row::specs::Row::core_by))]
 fn level_at(s: &[u8; row::ROW], k: u16) -> u8
     requires { row_rule.byte_at s.now 12 ≤ 30 }
     ensures { result ≡ attempt_rule.level_at (row_rule.core_of s.now).service.effort.frame k }
@@ -397,6 +425,7 @@ fn level_at(s: &[u8; row::ROW], k: u16) -> u8
 }
 
 // The level due in slot k.
+#[tactic(auto, using(std::proofs::lemmas::Bool::Decides::nat_tests), unfolding(crate::specs::Ways::due_from, row::specs::Row::core_of, row::specs::Row::core_by))]
 fn due(s: &[u8; row::ROW], k: u16, d: u8) -> u8
     ensures { result ≡ rule.due_from (row_rule.core_of s.now).service.effort.frame k d }
 {
@@ -409,12 +438,13 @@ fn due(s: &[u8; row::ROW], k: u16, d: u8) -> u8
     d
 }
 
-#[derive(Drop)]
+#[derive(Clone, Copy)]
 struct Levels {
     now: u8,
     next: u8,
 }
 
+#[tactic(auto, using(std::proofs::lemmas::Bool::Decides::nat_tests, crate::proofs::Tests::slot_first, crate::proofs::OwnFrame::same_nibble, crate::proofs::OwnFrame::next_nibble), unfolding(driver::specs::Driver::slot_coded, row::specs::Row::core_of, row::specs::Row::core_by))]
 fn coded_levels(s: &[u8; row::ROW], k: u16) -> Levels
     requires { k < 337 }
     ensures now { result.now ≡ driver_rule.slot_coded (row_rule.core_of s.now).service.effort.frame.bytes k }
@@ -436,6 +466,7 @@ fn coded_levels(s: &[u8; row::ROW], k: u16) -> Levels
     }
 }
 
+#[tactic(auto, using(std::proofs::lemmas::Bool::Decides::nat_tests, crate::proofs::OwnFrame::and_true, crate::proofs::OwnFrame::coded_level, crate::proofs::OwnFrame::coded_next), unfolding(row::specs::Row::core_of, row::specs::Row::core_by))]
 fn levels_at(s: &[u8; row::ROW], k: u16) -> Levels
     requires s_bound { row_rule.byte_at s.now 12 ≤ 30 }
     requires room { k < 65535 }
@@ -451,6 +482,7 @@ fn levels_at(s: &[u8; row::ROW], k: u16) -> Levels
     }
 }
 
+#[tactic(auto, using(std::proofs::lemmas::Bool::Decides::nat_tests, crate::proofs::OwnFrame::and_true, crate::proofs::Tests::slot_goes), unfolding(crate::specs::Ways::Judged, line::specs::Frame::size, row::specs::Row::core_of, row::specs::Row::core_by))]
 fn send_way(s: &[u8; row::ROW], v: u8) -> Way
     requires waits { (row_rule.core_of s.now).activity.waiting ≡ false }
     requires drives { attempt_rule.drives_frame (row_rule.core_of s.now).service.effort.progress ≡ true }
@@ -469,6 +501,7 @@ fn send_way(s: &[u8; row::ROW], v: u8) -> Way
 }
 
 // The next slot of the frame, and one slot more spent.
+#[tactic(auto, using(std::proofs::lemmas::Bool::Decides::nat_tests, crate::proofs::Effects::moving, crate::proofs::Effects::spent_more, crate::proofs::Effects::spent_most), unfolding(rules::specs::Definitions::Attempt::at_stage, row::specs::Row::core_of, row::specs::Row::core_by))]
 fn spend(s: &mut [u8; row::ROW], k: u16)
     requires k_value { k ≡ (row_rule.core_of s.old).service.effort.progress.at }
     requires room { k < 65535 }
@@ -487,6 +520,7 @@ fn spend(s: &mut [u8; row::ROW], k: u16)
     }
 }
 
+#[tactic(auto, using(std::proofs::lemmas::Bool::Decides::nat_tests))]
 fn own_dominant(s: &[u8; row::ROW], control: u8, k: u16) -> bool
     requires { row_rule.byte_at s.now 12 ≤ 30 }
     ensures { result ≡ pick (control_rule.compares_transmission control) (eqb (attempt_rule.level_at (row_rule.core_of s.now).service.effort.frame k) 0) false }
@@ -497,6 +531,7 @@ fn own_dominant(s: &[u8; row::ROW], control: u8, k: u16) -> bool
     false
 }
 
+#[tactic(auto, using(std::proofs::lemmas::Bool::Decides::nat_tests, crate::proofs::OwnFrame::and_both), unfolding(row::specs::Row::core_of, row::specs::Row::core_by))]
 fn sent(s: &mut [u8; row::ROW], control: u8, level: u8) -> Step
     requires s_bound { (row_rule.core_of s.old).service.effort.frame.n ≤ 30 }
     requires room { (row_rule.core_of s.old).service.effort.progress.at < 65535 }
@@ -518,6 +553,7 @@ fn sent(s: &mut [u8; row::ROW], control: u8, level: u8) -> Step
 // ---- the slot but for the diagnosis
 
 // Whether a service between attempts goes on.
+#[tactic(auto, using(std::proofs::lemmas::Bool::Decides::nat_tests, crate::proofs::Tests::goes_waiting), unfolding(rules::specs::Definitions::Service::stopped, rules::specs::Definitions::Attempt::between_attempts, rules::specs::Definitions::Attempt::is_between, rules::specs::Definitions::Attempt::exhausted, judging::specs::Ordinary::goes, row::specs::Row::core_of, row::specs::Row::core_by))]
 fn goes_on(s: &[u8; row::ROW]) -> bool
     requires { row_rule.byte_at s.now 68 < 2 }
     ensures { result ≡ judging_rule.goes (service_rule.stopped (row_rule.core_of s.now).service) }
@@ -529,6 +565,7 @@ fn goes_on(s: &[u8; row::ROW]) -> bool
     (c.errors.0 <= wide(s[At::SETTING]) as u32) & ((s[At::ABORT] != 1) & (s[At::REAR] != 1))
 }
 
+#[tactic(auto, using(std::proofs::lemmas::Bool::Decides::nat_tests, crate::proofs::Tests::listens, crate::proofs::Tests::carried), unfolding(crate::specs::Ways::Judged, crate::specs::Ways::Carries, rules::specs::Definitions::Reception::under_way, rules::specs::Definitions::Reception::is_under_way, row::specs::Row::core_of, row::specs::Row::core_by))]
 fn rest_way(m: &[u8; 256], s: &[u8; row::ROW], v: u8) -> Way
     requires waits { (row_rule.core_of s.now).activity.waiting ≡ false }
     requires rests { row_rule.byte_at s.now 68 < 2 }
@@ -549,6 +586,7 @@ fn rest_way(m: &[u8; 256], s: &[u8; row::ROW], v: u8) -> Way
     Way::Other
 }
 
+#[tactic(auto, using(std::proofs::lemmas::Bool::Decides::nat_tests, crate::proofs::Tests::driven), unfolding(crate::specs::Ways::Judged, rules::specs::Definitions::Attempt::drives_frame, row::specs::Row::core_of, row::specs::Row::core_by))]
 fn way_of(m: &[u8; 256], s: &[u8; row::ROW], v: u8) -> Way
     ensures { rule.Judged result m.now (row_rule.core_of s.now) v }
 {
@@ -563,6 +601,7 @@ fn way_of(m: &[u8; 256], s: &[u8; row::ROW], v: u8) -> Way
     }
 }
 
+#[tactic(auto, using(std::proofs::lemmas::Bool::Decides::nat_tests, crate::proofs::Moving::as_sends, crate::proofs::Moving::as_receives, crate::proofs::Moving::received, crate::proofs::Moving::sent, crate::proofs::Moving::own_turn), unfolding(line::specs::Frame::size))]
 fn carried(m: &[u8; 256], s: &mut [u8; row::ROW], control: u8, v: u8, sends: bool, next: u8) -> Step
     requires { rule.Judged (ways.Follows sends next) m.now (row_rule.core_of s.old) v }
     ensures taken { result.taken ≡ true }
@@ -579,6 +618,7 @@ fn carried(m: &[u8; 256], s: &mut [u8; row::ROW], control: u8, v: u8, sends: boo
     }
 }
 
+#[tactic(auto, using(std::proofs::lemmas::Bool::Decides::nat_tests, crate::proofs::Moving::awake_active), unfolding(crate::specs::Ways::Judged, crate::specs::Ways::Stepped))]
 fn active(m: &[u8; 256], s: &mut [u8; row::ROW], control: u8, v: u8) -> Step
     requires { state_rule.is_active (row_rule.core_of s.old).activity.mode ≡ true }
     ensures { rule.Stepped result.taken m.now s.old control v s.new result.level result.turns }
@@ -595,6 +635,7 @@ fn active(m: &[u8; 256], s: &mut [u8; row::ROW], control: u8, v: u8) -> Step
 }
 
 // Idle: nothing moves, and the level is recessive. Asleep is not ordinary.
+#[tactic(auto, using(std::proofs::lemmas::Bool::Decides::nat_tests, crate::proofs::Moving::awake_idle), unfolding(crate::specs::Ways::Stepped, rules::specs::Definitions::State::is_active, row::specs::Row::core_of, row::specs::Row::core_by))]
 fn moved(m: &[u8; 256], s: &mut [u8; row::ROW], control: u8, v: u8) -> Step
     ensures { rule.Stepped result.taken m.now s.old control v s.new result.level result.turns }
 {
@@ -617,6 +658,7 @@ fn moved(m: &[u8; 256], s: &mut [u8; row::ROW], control: u8, v: u8) -> Step
 // ---- the slot
 
 // The diagnosis by value.
+#[tactic(auto, using(std::proofs::lemmas::Bool::Decides::nat_tests), unfolding(row::specs::Row::core_of, row::specs::Row::core_by))]
 fn work(s: &mut [u8; row::ROW], control: u8, levels: u8, turns: bool)
     ensures { row_rule.core_of s.new ≡ setter.with_diagnosis (row_rule.core_of s.old) (diagnosis_rule.diagnosed control levels turns false (row_rule.core_of s.old).diagnosis) }
 {
@@ -625,6 +667,7 @@ fn work(s: &mut [u8; row::ROW], control: u8, levels: u8, turns: bool)
 }
 
 // In place where no count of edges changes.
+#[tactic(auto, using(std::proofs::lemmas::Bool::Decides::nat_tests, crate::proofs::Effects::steady), unfolding(row::specs::Row::core_of, row::specs::Row::core_by))]
 fn diagnose(s: &mut [u8; row::ROW], control: u8, levels: u8, turns: bool, v: u8)
     requires { v ≡ diagnosis_rule.input_level levels (diagnosis_rule.connected control (row_rule.core_of s.old).diagnosis) }
     ensures { row_rule.core_of s.new ≡ setter.with_diagnosis (row_rule.core_of s.old) (diagnosis_rule.diagnosed control levels turns false (row_rule.core_of s.old).diagnosis) }
@@ -639,6 +682,7 @@ fn diagnose(s: &mut [u8; row::ROW], control: u8, levels: u8, turns: bool, v: u8)
 }
 
 // A slot with levels that a controller takes.
+#[tactic(auto, using(std::proofs::lemmas::Bool::Decides::nat_tests, slots::proofs::Diagnosed::awake_as, crate::proofs::Moving::step_awake, crate::proofs::Moving::step_same, crate::proofs::Moving::awake_open), unfolding(crate::specs::Ways::Took, row::specs::Row::core_of, row::specs::Row::core_by))]
 pub fn slot(m: &[u8; 256], s: &mut [u8; row::ROW], levels: u16) -> Taken
     ensures { rule.Took result m.now s.old levels s.new }
 {
