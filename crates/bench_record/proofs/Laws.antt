@@ -17,8 +17,8 @@ use Rattle.session.specs.declared.Event.{Event}
 use Rattle.session.specs.declared.Varint.{Varint}
 use Rattle.session.specs.declared.Varint.TheVariants.{Value, Bad as BadVarint}
 use Rattle.session.specs.declared.Header.{Header}
-use Rattle.session.specs.declared.Header.TheVariants.{Good, Bad as Bad_header}
-use Rattle.session.specs.declared.Item.TheVariants.{Next, Bad as Bad_item}
+use Rattle.session.specs.declared.Header.TheVariants.{Good, Bad as BadHeader}
+use Rattle.session.specs.declared.Item.TheVariants.{Next, Bad as BadItem}
 use Rattle.session.specs.Reading.{most_events, fault_number, varint_at, counted, versioned, header_at, event_at, end_at, events_at}
 use Rattle.session.proofs.Walk.{no_header, counts, none_due, stops, goes_on}
 use Rattle.rules.specs.Definitions.Run.{fresh}
@@ -41,7 +41,7 @@ module _ (c : Controller) (s : List ℕ) (count index at : ℕ) where
       let d : count - index ≡ suc (count - (index + 1)) = omega arith in
       rw (d, goes_on s at (count - (index + 1)) i) (append_assoc (line index e (answer_to c e).refused (answer_to c e).value) _ _)
 
-  pub bad_line_lem : {f : Fault} {p k : ℕ} → index < count → event_at s at ≡ Bad_item f p k → body c index count (events_at (count - index) s at) ≡ bad_line (fault_number f) p k
+  pub bad_line_lem : {f : Fault} {p k : ℕ} → index < count → event_at s at ≡ BadItem f p k → body c index count (events_at (count - index) s at) ≡ bad_line (fault_number f) p k
   unfolding body lines closing
   bad_line_lem h i = let d : count - index ≡ suc (count - (index + 1)) = omega arith in rw (d, stops s at (count - (index + 1)) i)
 
@@ -109,14 +109,14 @@ copied room text aside after copy at n r h l c =
 
 abbrev pub count_of : Header → ℕ
 count_of (Good c next) = c
-count_of (Bad_header f p k) = 0
+count_of (BadHeader f p k) = 0
 
 counted_most : (most at : ℕ) (r : Varint) → count_of (counted most at r) ≤ most
 unfolding counted
 counted_most most at (BadVarint f p k) = omega arith
 counted_most most at (Value c next used) = go (ltb most c) (ltb-false most c)
   where
-    go : (t : Bool) → (t ≡ false → c ≤ most) → count_of (pick t (Bad_header Count at used) (Good c next)) ≤ most
+    go : (t : Bool) → (t ≡ false → c ≤ most) → count_of (pick t (BadHeader Count at used) (Good c next)) ≤ most
     go true h = omega arith
     go false h = h refl
 
@@ -125,7 +125,7 @@ unfolding versioned
 versioned_most most s at (BadVarint f p k) = omega arith
 versioned_most most s at (Value v next used) = go (eqb v 1)
   where
-    go : (t : Bool) → count_of (pick t (counted most next (varint_at s next)) (Bad_header Version at used)) ≤ most
+    go : (t : Bool) → count_of (pick t (counted most next (varint_at s next)) (BadHeader Version at used)) ≤ most
     go true = counted_most most next (varint_at s next)
     go false = omega arith
 
@@ -133,7 +133,7 @@ pub count_most : (most : ℕ) (s : List ℕ) (at c next : ℕ) → header_at mos
 unfolding header_at
 count_most most s at c next e = rw e at (versioned_most most s at (varint_at s at))
 
-pub header_bad : {room after : List ℕ} {r : ℕ} (s : List ℕ) {p k : ℕ} {f : Fault} → header_at most_events s 0 ≡ Bad_header f p k → Laid room 0 (bad_line (fault_number f) p k) after r
+pub header_bad : {room after : List ℕ} {r : ℕ} (s : List ℕ) {p k : ℕ} {f : Fault} → header_at most_events s 0 ≡ BadHeader f p k → Laid room 0 (bad_line (fault_number f) p k) after r
     → Laid room 0 (listing_of s) after r
 unfolding listing_of listing
 header_bad s e l = rw (no_header most_events s e) l

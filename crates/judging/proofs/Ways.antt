@@ -1,6 +1,6 @@
 -- The ordinary slot touches neither map nor registers; the sample is judged by who sends.
 use Prim.Native.Nat.{ℕ}
-use mathlib.Core.Bool.{true, false, false≢true}
+use mathlib.Core.Bool.{true, false≢true}
 use mathlib.Core.List.{List}
 use mathlib.Core.Path.{◌≡◌, refl, sym, ◌∙◌, ap}
 use Rattle.line.proofs.Laws.{pick_same}

@@ -23,7 +23,7 @@ use Rattle.rules.specs.declared.Phase.{Phase}
 use Rattle.rules.specs.declared.Phase.TheVariants.{Quiet, Start, Body, Acknowledge, End}
 use Rattle.rules.specs.declared.Stage.{Stage}
 use Rattle.rules.specs.declared.Stage.TheVariants.{Resting, Waiting, Opening, Sending, Receiving}
-use Rattle.row.specs.Row.{byte_at, bytes_from, frame_at, mode_of, phase_of, stage_of, condition_of, core_by, core_of}
+use Rattle.row.specs.Row.{byte_at, bytes_from, mode_of, phase_of, stage_of, condition_of, core_by, core_of}
 use Rattle.row.specs.Bytes.{bit, mode_byte, phase_byte, stage_byte, condition_byte}
 
 -- ---- one write

@@ -16,9 +16,9 @@ use Rattle.session.specs.declared.Event.TheVariants.{Reset, Write, Read, Slot, M
 use Rattle.session.specs.declared.Varint.{Varint}
 use Rattle.session.specs.declared.Varint.TheVariants.{Value, Bad as BadVarint}
 use Rattle.session.specs.declared.Header.{Header}
-use Rattle.session.specs.declared.Header.TheVariants.{Good, Bad as Bad_header}
+use Rattle.session.specs.declared.Header.TheVariants.{Good, Bad as BadHeader}
 use Rattle.session.specs.declared.Item.{Item}
-use Rattle.session.specs.declared.Item.TheVariants.{Next, Bad as Bad_item}
+use Rattle.session.specs.declared.Item.TheVariants.{Next, Bad as BadItem}
 use Rattle.session.specs.Reading.{refusal, placed, varint_at, counted, versioned, header_at, valued, operands, kinded, event_at}
 use Rattle.session.specs.declared.Fault.{Fault}
 use Rattle.session.specs.declared.Fault.TheVariants.{Version, Count, Kind}
@@ -113,7 +113,7 @@ nothing_before s at p e = rw e (record { bytes = refl; place = omega arith })
 -- The header is version 1 and a count of at most `most`.
 unfoldable pub HeaderIs : ℕ → List ℕ → ℕ → Header → Type 0
 HeaderIs most s at (Good c next) = (c ≤ most) × (c ≤ 65535) × Form s at (uleb128 1 ++ uleb128 c) next
-HeaderIs most s at (Bad_header f p k) = Located most s f p k × HeaderFault s at p f
+HeaderIs most s at (BadHeader f p k) = Located most s f p k × HeaderFault s at p f
 
 module _ (most : ℕ) (s : List ℕ) (at : ℕ) (b : Bytes s) (h : at ≤ length s) where
   counted_is : (next : ℕ) → Form s at (uleb128 1) next → (r : Varint) → VarintIs s next r → HeaderIs most s at (counted most next r)
@@ -148,7 +148,7 @@ header_back most s at c u h k e =
 -- An event is its bytes; a fault stands at its place or after it.
 unfoldable pub ItemIs : List ℕ → ℕ → Item → Type 0
 ItemIs s at (Next e next) = Fits e × Form s at (event_bytes e) next
-ItemIs s at (Bad_item f p k) = ItemFault s at p f × ((most : ℕ) → Located most s f p k)
+ItemIs s at (BadItem f p k) = ItemFault s at p f × ((most : ℕ) → Located most s f p k)
 
 begun_kind : (k : ℕ) → (k ≡ 0 → ⊥) → k ≤ 4 → Begun (uleb128 k)
 begun_kind k z l = claims.kind k (omega (arith, z)) l

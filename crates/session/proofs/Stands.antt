@@ -14,9 +14,9 @@ use Rattle.leb128.proofs.GroupLaws.{followed, decode_followed}
 use Rattle.session.specs.declared.Varint.{Varint}
 use Rattle.session.specs.declared.Varint.TheVariants.{Value, Bad as BadVarint}
 use Rattle.session.specs.declared.Header.{Header}
-use Rattle.session.specs.declared.Header.TheVariants.{Good, Bad as Bad_header}
+use Rattle.session.specs.declared.Header.TheVariants.{Good, Bad as BadHeader}
 use Rattle.session.specs.declared.Item.{Item}
-use Rattle.session.specs.declared.Item.TheVariants.{Next, Bad as Bad_item}
+use Rattle.session.specs.declared.Item.TheVariants.{Next, Bad as BadItem}
 use Rattle.session.specs.declared.End.{End}
 use Rattle.session.specs.Reading.{refusal, placed, varint_at, counted, versioned, header_at, valued, operands, kinded, event_at, end_at, Events, follow, events_at, Counted, started, session}
 use Rattle.session.specs.Claims.{NotCut, EndStands, Settled}
@@ -28,11 +28,11 @@ VarintStands (BadVarint f p u) = NotCut f
 
 unfoldable HeaderStands : Header → Type 0
 HeaderStands (Good c next) = Unit {0}
-HeaderStands (Bad_header f p u) = NotCut f
+HeaderStands (BadHeader f p u) = NotCut f
 
 unfoldable ItemStands : Item → Type 0
 ItemStands (Next e next) = Unit {0}
-ItemStands (Bad_item f p u) = NotCut f
+ItemStands (BadItem f p u) = NotCut f
 
 -- Where one of the two ways changes, and only if what is picked does not stand.
 first_way : {A : Type 0} (P : A → Type 0) (x : Bool) (i i' j : A) → (P i → i' ≡ i) → P (pick x i j) → pick x i' j ≡ pick x i j
@@ -120,12 +120,12 @@ module _ (s t : List ℕ) where
     unfolding follow ItemIs
     follow_stands due at h (Next e next) f rest l =
         ap (λ (r : Events). record { events = e ∷ r.events; end = r.end }) (rest next (within h f.1) l)
-    follow_stands due at h (Bad_item f p u) e rest l = refl
+    follow_stands due at h (BadItem f p u) e rest l = refl
 
     of_item : (due : ℕ) (i : Item) → EndStands (follow i (λ next. events_at due s next)).end → ItemStands i
     unfolding follow EndStands ItemStands
     of_item due (Next e next) l = tt
-    of_item due (Bad_item f p u) l = l
+    of_item due (BadItem f p u) l = l
 
     events_stand : (due at : ℕ) → at ≤ length s → EndStands (events_at due s at).end → events_at due (s ++ t) at ≡ events_at due s at
     unfolding events_at
@@ -141,8 +141,8 @@ session_stands most s t b i =
   where
     of_header : (h : Header) → Settled (started s h) → HeaderStands h
     of_header (Good c next) l = tt
-    of_header (Bad_header f p u) l = l
+    of_header (BadHeader f p u) l = l
 
     same : (h : Header) → HeaderIs most s 0 h → Settled (started s h) → started (s ++ t) h ≡ started s h
     same (Good c next) e l = ap (Counted c) (events_stand s t b c next (within (omega arith) e.2) l)
-    same (Bad_header f p u) e l = refl
+    same (BadHeader f p u) e l = refl

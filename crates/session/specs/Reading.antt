@@ -10,11 +10,11 @@ use Rattle.session.specs.declared.Event.TheVariants.{Reset, Write, Read, Slot, M
 use Rattle.session.specs.declared.Varint.{Varint}
 use Rattle.session.specs.declared.Varint.TheVariants.{Value, Bad as BadVarint}
 use Rattle.session.specs.declared.Header.{Header}
-use Rattle.session.specs.declared.Header.TheVariants.{Good, Bad as Bad_header}
+use Rattle.session.specs.declared.Header.TheVariants.{Good, Bad as BadHeader}
 use Rattle.session.specs.declared.Item.{Item}
-use Rattle.session.specs.declared.Item.TheVariants.{Next, Bad as Bad_item}
+use Rattle.session.specs.declared.Item.TheVariants.{Next, Bad as BadItem}
 use Rattle.session.specs.declared.End.{End}
-use Rattle.session.specs.declared.End.TheVariants.{Clean, Bad as Bad_end}
+use Rattle.session.specs.declared.End.TheVariants.{Clean, Bad as BadEnd}
 
 -- 01, Numbers refused: 30, 31, 32 are "number cut, not shortest, above 65,535"; 33 to 36 are "version, count above 4,096, kind, bytes left over".
 unfoldable pub fault_number : Fault → ℕ
@@ -46,12 +46,12 @@ varint_at s at = placed s at (leb128.decode (drop at s))
 
 -- The header: "version 1, count", the count at most `most`; each is judged as soon as its number is read.
 unfoldable pub counted : ℕ → ℕ → Varint → Header
-counted most at (BadVarint f p k) = Bad_header f p k
-counted most at (Value c next used) = pick (ltb most c) (Bad_header Count at used) (Good c next)
+counted most at (BadVarint f p k) = BadHeader f p k
+counted most at (Value c next used) = pick (ltb most c) (BadHeader Count at used) (Good c next)
 
 unfoldable pub versioned : ℕ → List ℕ → ℕ → Varint → Header
-versioned most s at (BadVarint f p k) = Bad_header f p k
-versioned most s at (Value v next used) = pick (eqb v 1) (counted most next (varint_at s next)) (Bad_header Version at used)
+versioned most s at (BadVarint f p k) = BadHeader f p k
+versioned most s at (Value v next used) = pick (eqb v 1) (counted most next (varint_at s next)) (BadHeader Version at used)
 
 unfoldable pub header_at : ℕ → List ℕ → ℕ → Header
 header_at most s at = versioned most s at (varint_at s at)
@@ -59,26 +59,26 @@ header_at most s at = versioned most s at (varint_at s at)
 -- "Kinds: 0 pin reset; 1 address, value; 2 address; 3 levels RxD0 + 2·RxD1 + 4·RxD2; 4 a mark, no effect." The value after the address; the numbers after
 -- a kind of 1 to 4; the kind, judged before its numbers.
 unfoldable pub valued : ℕ → Varint → Item
-valued address (BadVarint f p k) = Bad_item f p k
+valued address (BadVarint f p k) = BadItem f p k
 valued address (Value v next used) = Next (Write address v) next
 
 unfoldable pub operands : List ℕ → ℕ → Varint → Item
-operands s kind (BadVarint f p k) = Bad_item f p k
+operands s kind (BadVarint f p k) = BadItem f p k
 operands s kind (Value n next used) =
     pick (eqb kind 1) (valued n (varint_at s next))
     (pick (eqb kind 2) (Next (Read n) next) (pick (eqb kind 3) (Next (Slot n) next) (Next (Mark n) next)))
 
 unfoldable pub kinded : List ℕ → ℕ → Varint → Item
-kinded s at (BadVarint f p k) = Bad_item f p k
+kinded s at (BadVarint f p k) = BadItem f p k
 kinded s at (Value kind next used) =
-    pick (ltb 4 kind) (Bad_item Kind at used) (pick (eqb kind 0) (Next Reset next) (operands s kind (varint_at s next)))
+    pick (ltb 4 kind) (BadItem Kind at used) (pick (eqb kind 0) (Next Reset next) (operands s kind (varint_at s next)))
 
 unfoldable pub event_at : List ℕ → ℕ → Item
 event_at s at = kinded s at (varint_at s at)
 
 -- 36, "bytes left over": its place is the first of them, and no number is read there (02, Req 02: "K 0 for 36").
 unfoldable pub end_at : List ℕ → ℕ → End
-end_at s at = pick (ltb at (length s)) (Bad_end LeftOver at 0) Clean
+end_at s at = pick (ltb at (length s)) (BadEnd LeftOver at 0) Clean
 
 -- 01, Numbers refused: "for 30 to 36 this is said of the event being read, and those before it stand". The events read from a place on, where so many are due,
 -- and how the reading ended.
@@ -87,7 +87,7 @@ pub record Events : Type 0 where
   pub end : End
 
 unfoldable pub follow : Item → (ℕ → Events) → Events
-follow (Bad_item f p k) rest = record { events = []; end = Bad_end f p k }
+follow (BadItem f p k) rest = record { events = []; end = BadEnd f p k }
 follow (Next e next) rest = record { events = e ∷ (rest next).events; end = (rest next).end }
 
 unfoldable pub events_at : ℕ → List ℕ → ℕ → Events
@@ -100,7 +100,7 @@ pub data Reading : Type 0 where
   Counted : ℕ → Events → Reading
 
 unfoldable pub started : List ℕ → Header → Reading
-started s (Bad_header f p k) = NoHeader f p k
+started s (BadHeader f p k) = NoHeader f p k
 started s (Good count next) = Counted count (events_at count s next)
 
 unfoldable pub session : ℕ → List ℕ → Reading

@@ -7,7 +7,7 @@ use native.Mathlib.Nat.{add-zero, zero-add, sub-zero}
 use lib.ListN.{length}
 use Rattle.session.specs.declared.Fault.{Fault}
 use Rattle.session.specs.declared.Event.{Event}
-use Rattle.session.specs.declared.Item.TheVariants.{Next, Bad as Bad_item}
+use Rattle.session.specs.declared.Item.TheVariants.{Next, Bad as BadItem}
 use Rattle.session.specs.Reading.{event_at, end_at, Events, events_at}
 use Rattle.session.proofs.Walk.{none_due, stops, goes_on}
 use Rattle.session_cases.specs.declared.Outcome.{Outcome}
@@ -23,7 +23,7 @@ module _ (s : List ℕ) (count n at : ℕ) where
   unfolding outcome
   first_due z = rw (z, sub-zero, zero-add)
 
-  pub stopped : {f : Fault} {p k : ℕ} → n < count → event_at s at ≡ Bad_item f p k → after n (events_at (count - n) s at) ≡ Broken n f p k
+  pub stopped : {f : Fault} {p k : ℕ} → n < count → event_at s at ≡ BadItem f p k → after n (events_at (count - n) s at) ≡ Broken n f p k
   unfolding ended
   stopped h e = let d : count - n ≡ suc (count - (n + 1)) = omega arith in rw (d, stops s at (count - (n + 1)) e, add-zero)
 

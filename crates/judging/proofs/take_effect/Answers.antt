@@ -1,5 +1,5 @@
 use mathlib.Core.Path.{sym, ◌∙◌}
-use Rattle.judging.proofs.Ways.{memory_kept, report_kept, service_kept}
+use Rattle.judging.proofs.Ways.{service_kept}
 use Rattle.judging.proofs.take_effect.Goals as goal
 
 pub returns-then-ordinary-clause-service : goal.returns-then-ordinary-clause-service

@@ -1,5 +1,4 @@
 use mathlib.Core.Path.{◌∙◌}
-use borrow.Author.Rules.{rules}
 use Rattle.slots.proofs.Diagnosed.{awake_as}
 use Rattle.slots.proofs.awake_slot.Goals as goal
 

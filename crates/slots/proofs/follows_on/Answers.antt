@@ -1,6 +1,4 @@
-use mathlib.Core.Path.{sym, ◌∙◌}
 use Rattle.rules.specs.Definitions.Slots.{follows_on}
-use Rattle.slots.proofs.Ways.{nothing_follows}
 use Rattle.slots.proofs.follows_on.Goals as goal
 
 pub returns-then-begins : goal.returns-then-begins
