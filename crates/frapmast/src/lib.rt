@@ -1,4 +1,6 @@
 // Codec, player and controller for C: library/frapmast.h declares these calls and says how they are made.
+#![tactic(auto)]
+
 ghost use Rattle.std.specs.Prelude.{◌≡◌};
 ghost use Rattle.codec.specs.Encode.{given};
 ghost use Rattle.bench_record.specs.Record as player_rule;
@@ -15,6 +17,7 @@ use codec::{Decoded, Encoded};
 
 // The frame's slots, into lent room, and how many; or the refusal's number.
 #[unsafe(no_mangle)]
+#[tactic(auto, using(std::proofs::lemmas::Bool::Decides::nat_tests, crate::proofs::Answers::encoded_slots, crate::proofs::Answers::encoded_not))]
 pub extern "C" fn frapmast_encode(
     identifier: u32,
     command: u32,
@@ -41,6 +44,7 @@ pub extern "C" fn frapmast_encode(
 
 // The frame that the slots are: its head, and its data bytes in lent room; or the refusal's number.
 #[unsafe(no_mangle)]
+#[tactic(auto, using(std::proofs::lemmas::Bool::Decides::nat_tests, crate::proofs::Answers::decoded_head, crate::proofs::Answers::decoded_not))]
 pub extern "C" fn frapmast_decode(slots: &[u8], room: &mut [u8], head: &mut [u16; 4]) -> u8
     ensures answer { result ≡ rule.decode_number (rule.decoding room.old slots.now) }
     ensures head { head.new ≡ rule.head (rule.decoding room.old slots.now) }
@@ -65,6 +69,7 @@ pub extern "C" fn frapmast_decode(slots: &[u8], room: &mut [u8], head: &mut [u16
 
 // The session's listing, in lent room, and its length; or 13, and nothing is written.
 #[unsafe(no_mangle)]
+#[tactic(auto, using(std::proofs::lemmas::Bool::Decides::nat_tests, crate::proofs::Answers::played_listed, crate::proofs::Answers::played_short))]
 pub extern "C" fn frapmast_play(session: &[u8], room: &mut [u8], length: &mut usize) -> u8
     ensures answer { result ≡ player_rule.number (rule.playing room.old session.now) }
     ensures length { length.new ≡ rule.listing_length (rule.playing room.old session.now) }
@@ -86,6 +91,7 @@ pub extern "C" fn frapmast_play(session: &[u8], room: &mut [u8], length: &mut us
 
 // A fresh controller, whatever was lent.
 #[unsafe(no_mangle)]
+#[tactic(auto, using(std::proofs::lemmas::Bool::Decides::nat_tests))]
 pub extern "C" fn frapmast_fresh(map: &mut [u8; 256], row: &mut [u8; row::ROW])
     ensures { answers.controller map.new (row_rule.core_of row.new) ≡ run.fresh }
 {
@@ -94,6 +100,7 @@ pub extern "C" fn frapmast_fresh(map: &mut [u8; 256], row: &mut [u8; row::ROW])
 
 // Pin reset: the refusal's number or 0.
 #[unsafe(no_mangle)]
+#[tactic(auto, using(std::proofs::lemmas::Bool::Decides::nat_tests), unfolding(within::specs::Lent::answer))]
 pub extern "C" fn frapmast_reset(map: &mut [u8; 256], row: &mut [u8; row::ROW]) -> u8
     ensures answer { result ≡ (run.step (answers.controller map.old (row_rule.core_of row.old)) event.Reset).refused }
     ensures state { answers.controller map.new (row_rule.core_of row.new) ≡ (run.step (answers.controller map.old (row_rule.core_of row.old)) event.Reset).next }
@@ -105,6 +112,7 @@ pub extern "C" fn frapmast_reset(map: &mut [u8; 256], row: &mut [u8; row::ROW]) 
 
 // A host write: the refusal's number or 0.
 #[unsafe(no_mangle)]
+#[tactic(auto, using(std::proofs::lemmas::Bool::Decides::nat_tests), unfolding(within::specs::Lent::answer))]
 pub extern "C" fn frapmast_write(
     map: &mut [u8; 256],
     row: &mut [u8; row::ROW],
@@ -121,6 +129,7 @@ pub extern "C" fn frapmast_write(
 
 // A host read: the refusal's number or 0, and the byte read or 0.
 #[unsafe(no_mangle)]
+#[tactic(auto, using(std::proofs::lemmas::Bool::Decides::nat_tests), unfolding(within::specs::Lent::answer))]
 pub extern "C" fn frapmast_read(
     map: &[u8; 256],
     row: &[u8; row::ROW],
@@ -137,6 +146,7 @@ pub extern "C" fn frapmast_read(
 
 // A slot: the refusal's number or 0, and the level of TXD for the next slot or 0.
 #[unsafe(no_mangle)]
+#[tactic(auto, using(std::proofs::lemmas::Bool::Decides::nat_tests), unfolding(within::specs::Lent::answer))]
 pub extern "C" fn frapmast_slot(
     map: &mut [u8; 256],
     row: &mut [u8; row::ROW],
@@ -155,6 +165,7 @@ pub extern "C" fn frapmast_slot(
 
 // The interrupt line.
 #[unsafe(no_mangle)]
+#[tactic(auto, using(std::proofs::lemmas::Bool::Decides::nat_tests))]
 pub extern "C" fn frapmast_interrupt(map: &[u8; 256], row: &[u8; row::ROW]) -> bool
     ensures { result ≡ host_rule.interrupt_line (answers.controller map.now (row_rule.core_of row.now)) }
 {

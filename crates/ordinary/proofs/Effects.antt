@@ -10,16 +10,14 @@ use Rattle.diagnosis.specs.Rules.{input_level, connected, dominant_run, differ, 
 use Rattle.diagnosis.specs.declared.Diagnosis.{Diagnosis}
 use Rattle.diagnosing.specs.Steady.{passes}
 use Rattle.diagnosing.proofs.Passing.{quick}
-use Rattle.rules.specs.Definitions.Setters.{with_service, with_effort, with_progress, with_counters, with_slots}
+use Rattle.rules.specs.Definitions.Setters.{with_effort, with_progress, with_counters, with_slots}
 use Rattle.rules.specs.Definitions.Reception.{counted}
 use Rattle.rules.specs.Definitions.Attempt.{largest, more_slots, slot_spent, at_stage, advance}
 use Rattle.rules.specs.Definitions.Slots.{service_judged}
 use Rattle.rules.specs.declared.Line.{Line}
-use Rattle.rules.specs.declared.Timeslots.{Timeslots}
 use Rattle.rules.specs.declared.Stage.TheVariants.{Sending}
 use Rattle.rules.specs.declared.Verdict.TheVariants.{Goes}
 use Rattle.rules.specs.declared.Service.{Service}
-use Rattle.rules.specs.declared.Core.{Core}
 use Rattle.row.specs.Row.{with_count, with_spent, with_watched}
 
 -- the count alone changes

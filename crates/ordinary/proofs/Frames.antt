@@ -2,7 +2,7 @@
 use Prim.Native.Nat.{ℕ, ◌+◌, ◌*◌, ◌%◌, ◌/◌}
 use mathlib.Core.Bool.{Bool, true, false, false≢true, not}
 use mathlib.Core.List.{List}
-use mathlib.Core.Path.{◌≡◌, refl, sym, ap, subst, ◌∙◌}
+use mathlib.Core.Path.{◌≡◌, refl, sym, ap, ◌∙◌}
 use native.Mathlib.Omega.{arith}
 use lib.Dec.{eqb, ltb}
 use lib.ListN.{get_or}
@@ -12,15 +12,14 @@ use Rattle.line.specs.Frame.{start}
 use Rattle.rules.specs.Definitions.Longest.{capacity, most_nibbles}
 use Rattle.rules.specs.Definitions.Registers.{both, CV, FV}
 use Rattle.rules.specs.Definitions.Channels.{acknowledge_asked}
-use Rattle.rules.specs.Definitions.Reception.{under_way, is_under_way, in_body, is_body, behind, start_ended, command_ended, reads_asked, at_place, moved, entered, bit_taken, bits_laid, more_nibbles, nibble_taken, data_ended, begun, quiet, follow_start, follow_body, follow_acknowledge, follow_end, follow_in, followed, winner_taken}
+use Rattle.rules.specs.Definitions.Reception.{under_way, is_under_way, in_body, is_body, behind, start_ended, command_ended, reads_asked, at_place, moved, entered, bit_taken, more_nibbles, nibble_taken, data_ended, begun, follow_start, follow_body, follow_acknowledge, follow_end, follow_in, followed, winner_taken}
 use Rattle.rules.specs.Definitions.Hearing.{acknowledges, acknowledge_wrong, hear_start, hear_body, hear_second_half, hear_acknowledge, hear_end, hear_in, reception_after}
 use Rattle.rules.specs.Definitions.Slots.{reception_judged}
 use Rattle.rules.specs.declared.Phase.{Phase}
 use Rattle.rules.specs.declared.Phase.TheVariants.{Quiet, Start, Body, Acknowledge, End}
 use Rattle.rules.specs.declared.Reception.{Reception}
-use Rattle.rules.specs.declared.Hearing.{Hearing}
 use Rattle.rules.specs.declared.Hearing.TheVariants.{Follows, Fault}
-use Rattle.rules.proofs.Logic.{both_true, both_false, not_true, clash}
+use Rattle.rules.proofs.Logic.{both_true, both_false, not_true}
 use Rattle.ordinary.specs.Ways.{body_goes, acknowledge_goes, end_goes, start_goes, goes_in}
 
 -- ---- it is no fault

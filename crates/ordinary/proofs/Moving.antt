@@ -1,21 +1,20 @@
 -- What an ordinary sample leaves, by its way: the frame followed as a receiver, the line counted, a slot of the model's own frame sent.
-use Prim.Native.Nat.{ℕ, ◌+◌}
+use Prim.Native.Nat.{ℕ}
 use mathlib.Core.Bool.{Bool, true, false, false≢true, not}
 use mathlib.Core.List.{List}
-use mathlib.Core.Path.{◌≡◌, refl, sym, ap, subst, ◌∙◌}
+use mathlib.Core.Path.{◌≡◌, refl, sym, ap, ◌∙◌}
 use lib.Dec.{eqb}
 use lib.ListN.{get_or}
 use Rattle.line.specs.Bits.{pick}
-use Rattle.line.specs.Frame.{slots_of, start}
+use Rattle.line.specs.Frame.{start}
 use Rattle.line.proofs.Laws.{pick_same}
 use Rattle.diagnosis.specs.Control.{compares_transmission}
-use Rattle.rules.specs.Definitions.Setters.{with_line, with_reception, with_service, with_reply, with_effort}
-use Rattle.rules.specs.Definitions.Longest.{capacity, longest_of}
+use Rattle.rules.specs.Definitions.Setters.{with_line, with_reception, with_service, with_reply}
+use Rattle.rules.specs.Definitions.Longest.{capacity}
 use Rattle.rules.specs.Definitions.Registers.{both, transmit_control, autonomous}
-use Rattle.rules.specs.Definitions.Channels.{lowest_ready}
-use Rattle.rules.specs.Definitions.Reception.{under_way, is_under_way, in_body, is_body, behind, start_ended, command_ended, reads_asked, counted, free, takes_start}
-use Rattle.rules.specs.Definitions.Hearing.{line_after, reception_after, hear_frame, hear_in, hear_quiet, ends_well, receiver_level}
-use Rattle.rules.specs.Definitions.Attempt.{drives_frame, is_driving, is_answered, is_answering, waits, is_waiting, in_service, is_serving, between_attempts, is_between, at_stage, advance, judge_slot, sent_slots, level_at}
+use Rattle.rules.specs.Definitions.Reception.{under_way, is_under_way, in_body, is_body, behind, start_ended, command_ended, counted, free, takes_start}
+use Rattle.rules.specs.Definitions.Hearing.{line_after, reception_after, hear_frame, hear_quiet, ends_well, receiver_level}
+use Rattle.rules.specs.Definitions.Attempt.{drives_frame, is_driving, waits, is_waiting, in_service, is_serving, between_attempts, is_between, at_stage, advance, sent_slots, level_at}
 use Rattle.rules.specs.Definitions.Service.{role_of, ending_of, stopped, choose, choice_of, resting, started, opened, hear_own}
 use Rattle.rules.specs.Definitions.State.{is_active, is_asleep, serving}
 use Rattle.rules.specs.Definitions.Slots.{role_in, verdict_as, verdict, reply_verdict, heard_as, heard, service_judged, reception_judged, reply_after, chooses, choice_made, start_made, follows_on, drives, drives_as, sampled_slot, ended, resting_slot}
@@ -26,10 +25,8 @@ use Rattle.rules.specs.declared.Stage.{Stage}
 use Rattle.rules.specs.declared.Stage.TheVariants.{Resting, Waiting, Opening, Sending, Receiving}
 use Rattle.rules.specs.declared.Role.{Role}
 use Rattle.rules.specs.declared.Role.TheVariants.{Nobody, Receiver, Sender}
-use Rattle.rules.specs.declared.Choice.{Choice}
 use Rattle.rules.specs.declared.Hearing.{Hearing}
 use Rattle.rules.specs.declared.Hearing.TheVariants.{Silent, Follows}
-use Rattle.rules.specs.declared.Verdict.{Verdict}
 use Rattle.rules.specs.declared.Verdict.TheVariants.{Unjudged, Goes}
 use Rattle.rules.specs.declared.Coded.{Coded}
 use Rattle.rules.specs.declared.Progress.{Progress}

@@ -1,17 +1,16 @@
 -- The winner of a followed frame: it is named where a slot enters the body or closes a nibble, with four nibbles whole.
 use Prim.Native.Nat.{ℕ, ◌+◌, ◌%◌}
-use mathlib.Core.Bool.{Bool, true, false, not}
+use mathlib.Core.Bool.{Bool, true, false}
 use mathlib.Core.List.{List}
-use mathlib.Core.Path.{◌≡◌, refl, sym, ap, ◌∙◌}
+use mathlib.Core.Path.{◌≡◌, refl, ap}
 use native.Mathlib.Omega.{arith}
 use lib.Dec.{eqb, ltb}
 use borrow.Author.Tests.{ne_eqb, ltb-false}
 use Rattle.line.specs.Bits.{pick}
 use Rattle.rules.specs.Definitions.Registers.{both}
-use Rattle.rules.specs.Definitions.Reception.{in_body, is_body, behind, command_ended, at_place, moved, entered, bit_taken, bits_laid, more_nibbles, nibble_taken, data_ended, begun, quiet, follow_start, follow_body, follow_acknowledge, follow_end, winner_taken}
+use Rattle.rules.specs.Definitions.Reception.{in_body, is_body, behind, command_ended, at_place, moved, entered, bit_taken, more_nibbles, nibble_taken, data_ended, begun, follow_start, follow_body, follow_acknowledge, follow_end, winner_taken}
 use Rattle.rules.specs.Definitions.Hearing.{receiver_in}
-use Rattle.rules.specs.declared.Phase.{Phase}
-use Rattle.rules.specs.declared.Phase.TheVariants.{Quiet, Start, Body, Acknowledge, End}
+use Rattle.rules.specs.declared.Phase.TheVariants.{Quiet, Start, Body, End}
 use Rattle.rules.specs.declared.Reception.{Reception}
 use Rattle.rules.proofs.Logic.{both_false}
 use Rattle.row.specs.Row.{phase_of}

@@ -4,7 +4,7 @@ use mathlib.Core.Bool.{Bool, true, false, false≢true, ◌&&◌}
 use mathlib.Core.List.{List}
 use mathlib.Core.Path.{◌≡◌, refl, sym, ap, ◌∙◌}
 use native.Mathlib.Omega.{arith}
-use lib.Dec.{eqb, ltb}
+use lib.Dec.{ltb}
 use lib.ListN.{get_or}
 use borrow.Author.Tests.{lt-ltb, le-ltb}
 use Rattle.line.specs.Bits.{pick}
@@ -12,7 +12,6 @@ use Rattle.line.specs.LineCode.{pattern}
 use Rattle.line.specs.Frame.{longest_data, start}
 use Rattle.rules.specs.Definitions.Registers.{both}
 use Rattle.rules.specs.Definitions.Attempt.{level_at}
-use Rattle.rules.specs.declared.Coded.{Coded}
 use Rattle.driver.specs.Driver.{nibble_at, slot_coded, placed, framed}
 use Rattle.driver.proofs.Levels.{level_placed}
 use Rattle.row.specs.Row.{frame_at, own_by}

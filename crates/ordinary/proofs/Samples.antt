@@ -1,43 +1,30 @@
 -- An ordinary sample: neither map nor registers change, and what the slot leaves of line, frame and service.
-use Prim.Native.Nat.{ℕ, ◌+◌, ◌%◌, ◌/◌}
-use mathlib.Core.Bool.{Bool, true, false, false≢true, not}
+use Prim.Native.Nat.{ℕ}
+use mathlib.Core.Bool.{Bool, true, false, not}
 use mathlib.Core.List.{List}
-use mathlib.Core.Path.{◌≡◌, refl, sym, ap, ◌∙◌}
-use lib.Dec.{eqb, ltb}
-use lib.ListN.{get_or}
+use mathlib.Core.Path.{◌≡◌, refl, ap, ◌∙◌}
 use Rattle.line.specs.Bits.{pick}
-use Rattle.rules.specs.Definitions.Setters.{with_line, with_reception, with_service, with_reply, with_effort}
-use Rattle.rules.specs.Definitions.Longest.{capacity, longest_of}
-use Rattle.rules.specs.Definitions.Registers.{both, transmit_control, autonomous}
-use Rattle.rules.specs.Definitions.Reception.{under_way, is_under_way, in_body, is_body, behind, start_ended, command_ended, reads_asked, counted, free, takes_start, followed, winner_taken}
-use Rattle.rules.specs.Definitions.Hearing.{line_after, reception_after, hear_frame, hear_quiet, ends_well, receiver_level}
-use Rattle.rules.specs.Definitions.Attempt.{drives_frame, is_driving, is_answered, waits, is_waiting, in_service, is_serving, between_attempts, is_between, at_stage, advance, judge_slot, level_at}
-use Rattle.rules.specs.Definitions.Service.{role_of, ending_of, stopped, choose, choice_of, resting, started, opened, hear_own, replied}
+use Rattle.rules.specs.Definitions.Setters.{with_line, with_reception, with_service, with_reply}
+use Rattle.rules.specs.Definitions.Reception.{under_way, start_ended}
+use Rattle.rules.specs.Definitions.Hearing.{line_after}
+use Rattle.rules.specs.Definitions.Attempt.{waits, advance}
+use Rattle.rules.specs.Definitions.Service.{role_of, ending_of, started}
 use Rattle.rules.specs.Definitions.State.{idle_due, is_active, serving}
-use Rattle.rules.specs.Definitions.Slots.{role_in, verdict_as, verdict, reply_verdict, heard_as, heard, service_judged, memory_judged, core_judged, reception_judged, reply_after, chooses, choice_made, start_made, follows_on, drives, drives_as, judged_slot, sampled_slot, ended}
+use Rattle.rules.specs.Definitions.Slots.{role_in, verdict_as, verdict, reply_verdict, heard_as, heard, service_judged, core_judged, reception_judged, reply_after, chooses, choice_made, start_made, follows_on, judged_slot, sampled_slot}
 use Rattle.rules.specs.Definitions.Answers.{controller}
-use Rattle.rules.specs.declared.Mode.TheVariants.{Active}
-use Rattle.rules.specs.declared.Phase.{Phase}
-use Rattle.rules.specs.declared.Phase.TheVariants.{Quiet, Start, Body, Acknowledge, End}
-use Rattle.rules.specs.declared.Stage.{Stage}
-use Rattle.rules.specs.declared.Stage.TheVariants.{Resting, Waiting, Opening, Sending, Receiving}
 use Rattle.rules.specs.declared.Role.{Role}
-use Rattle.rules.specs.declared.Role.TheVariants.{Nobody, Receiver, Sender, Asker, Replier}
+use Rattle.rules.specs.declared.Role.TheVariants.{Nobody, Receiver}
 use Rattle.rules.specs.declared.Hearing.{Hearing}
-use Rattle.rules.specs.declared.Hearing.TheVariants.{Silent, Follows}
 use Rattle.rules.specs.declared.Verdict.{Verdict}
-use Rattle.rules.specs.declared.Verdict.TheVariants.{Unjudged, Goes}
-use Rattle.rules.specs.declared.Ending.TheVariants.{Going}
+use Rattle.rules.specs.declared.Verdict.TheVariants.{Unjudged}
 use Rattle.rules.specs.declared.Service.{Service}
-use Rattle.rules.specs.declared.Line.{Line}
 use Rattle.rules.specs.declared.Reception.{Reception}
 use Rattle.rules.specs.declared.Core.{Core}
 use Rattle.rules.proofs.Logic.{both_false}
 use Rattle.line.proofs.Laws.{pick_same}
 use Rattle.judging.specs.Ordinary.{passes, unmarked, goes, ordinary}
 use Rattle.judging.proofs.Ways as ways
-use Rattle.slots.specs.Follow.{own_level, own_dominant, turning}
-use Rattle.ordinary.specs.Ways.{Listens, Receives, Counting, Sends, Moves}
+use Rattle.ordinary.specs.Ways.{Listens}
 
 -- ---- neither map nor registers change
 

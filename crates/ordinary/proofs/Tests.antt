@@ -2,16 +2,15 @@
 use Prim.Native.Nat.{ℕ, ◌+◌, ◌-◌, ◌*◌, ◌%◌, ◌/◌, ◌<◌, ◌≤◌}
 use mathlib.Core.Bool.{Bool, true, false, false≢true, not, ◌&&◌, ◌||◌}
 use mathlib.Core.List.{List}
-use mathlib.Core.Path.{◌≡◌, refl, sym, ap, ◌∙◌}
+use mathlib.Core.Path.{◌≡◌, refl, ap, ◌∙◌}
 use native.Mathlib.Omega.{arith}
 use lib.Dec.{eqb, ltb, leb}
 use lib.ListN.{get_or}
-use borrow.Author.Tests.{eq-eqb, ne_eqb, eqb-true, eqb-false, ltb-true, ltb-false, le-leb, lt-leb, lt-ltb, le-ltb}
+use borrow.Author.Tests.{eq-eqb, ne_eqb, eqb-false, ltb-true, ltb-false, le-leb, lt-leb, lt-ltb}
 use Rattle.line.specs.Bits.{pick, bits}
 use Rattle.line.specs.LineCode.{pattern, line_code}
 use Rattle.line.specs.Frame.{size}
-use Rattle.rules.specs.Definitions.Registers.{both}
-use Rattle.rules.specs.Definitions.Attempt.{is_serving, is_between, is_waiting, is_driving, drives_frame, is_answering, is_answered, due, judge_slot, level_at}
+use Rattle.rules.specs.Definitions.Attempt.{is_serving, is_waiting, is_driving, drives_frame, is_answering, is_answered, due, judge_slot, level_at}
 use Rattle.rules.specs.Definitions.Reception.{is_under_way}
 use Rattle.rules.specs.Definitions.Service.{stopped}
 use Rattle.rules.specs.declared.Stage.TheVariants.{Resting, Waiting, Opening, Sending, Receiving}

@@ -1,4 +1,6 @@
 // Plays the session on standard input, its first 65,536 bytes at most, and writes its listing.
+#![tactic(auto)]
+
 ghost use Rattle.std.specs.Prelude.{◌≡◌, length};
 
 use bench_record::Played;

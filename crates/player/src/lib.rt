@@ -1,4 +1,6 @@
 // The bench player: a session's bytes in, its listing out (01, Session and listing).
+#![tactic(auto)]
+
 ghost use Rattle.std.specs.Prelude.{◌≡◌, ◌+◌, ◌*◌, ◌≤◌, length, set};
 ghost use Rattle.session.specs.Reading as reading;
 ghost use Rattle.rules.specs.Definitions.Run as run;
@@ -23,6 +25,7 @@ const LINE: usize = 80;
 // ---- a text in room that may end before it: what the room has no place for is left out, and counted
 
 // A byte, as by `set`: with no such place nothing is written.
+#[tactic(auto, using(std::proofs::lemmas::Bool::Decides::nat_tests))]
 fn put(room: &mut [u8], at: usize, b: u8)
     ensures { room.new ≡ set room.old at b }
 {
@@ -32,6 +35,7 @@ fn put(room: &mut [u8], at: usize, b: u8)
 }
 
 // A text; the answer is the place behind it.
+#[tactic(auto, using(std::proofs::lemmas::Bool::Decides::nat_tests, line::proofs::Room::put_next, line::proofs::Room::put_end))]
 fn lay(room: &mut [u8], at: usize, text: &[u8]) -> usize
     requires { at + length text.now ≤ 327840 }
     ensures { Laid room.old at text.now room.new result }
@@ -45,6 +49,7 @@ fn lay(room: &mut [u8], at: usize, text: &[u8]) -> usize
 }
 
 // An event's line. In room that may be too short it is made aside.
+#[tactic(auto, using(std::proofs::lemmas::Bool::Decides::nat_tests, listing::proofs::Laws::line_laid, crate::proofs::Aside::line_copied))]
 fn lay_line(room: &mut [u8], at: usize, index: u16, e: Event, refused: u8, value: u8) -> usize
     requires { at + text.longest_line ≤ 327840 }
     ensures laid { Laid room.old at (text.line index e refused value) room.new result }
@@ -59,6 +64,7 @@ fn lay_line(room: &mut [u8], at: usize, index: u16, e: Event, refused: u8, value
 }
 
 // A line before or behind those of the events, likewise.
+#[tactic(auto, using(std::proofs::lemmas::Bool::Decides::nat_tests, listing::proofs::Laws::line_laid, crate::proofs::Aside::line_copied))]
 fn lay_edge(room: &mut [u8], at: usize, l: Edge) -> usize
     requires { at + text.longest_line ≤ 327840 }
     ensures laid { Laid room.old at (text.edge_line l) room.new result }
@@ -73,6 +79,7 @@ fn lay_edge(room: &mut [u8], at: usize, l: Edge) -> usize
 }
 
 // The line of a fault, with its place and how many bytes were looked at there.
+#[tactic(auto, using(std::proofs::lemmas::Bool::Decides::nat_tests))]
 fn lay_fault(room: &mut [u8], at: usize, f: Fault, place: usize, looked: usize) -> usize
     requires { at + text.longest_line ≤ 327840 }
     ensures laid { Laid room.old at (text.bad_line (reading.fault_number f) place looked) room.new result }
@@ -84,6 +91,7 @@ fn lay_fault(room: &mut [u8], at: usize, f: Fault, place: usize, looked: usize) 
 // ---- an event
 
 // A mark has no effect.
+#[tactic(auto, using(std::proofs::lemmas::Bool::Decides::nat_tests), unfolding(bench_record::specs::Record::answer_to, rules::specs::Definitions::Run::accept, within::specs::Lent::answer))]
 fn answer(m: &mut [u8; 256], row: &mut [u8; row::ROW], e: Event) -> Answered
     ensures { lent.answer result m.new row.new ≡ rule.answer_to (answers.controller m.old (row_rule.core_of row.old)) e }
 {
@@ -100,6 +108,7 @@ fn answer(m: &mut [u8; 256], row: &mut [u8; row::ROW], e: Event) -> Answered
 }
 
 // An event, and its line at a place; the answer is the place behind it.
+#[tactic(auto, using(std::proofs::lemmas::Bool::Decides::nat_tests, crate::proofs::Events::event_laid, crate::proofs::Events::event_next))]
 fn play_event(
     m: &mut [u8; 256],
     row: &mut [u8; row::ROW],
@@ -120,6 +129,7 @@ fn play_event(
 // ---- a session
 
 // What follows the last event.
+#[tactic(auto, using(std::proofs::lemmas::Bool::Decides::nat_tests), unfolding(bench_record::specs::Record::closing))]
 fn put_closing(s: &[u8], from: usize, count: u16, room: &mut [u8], at: usize) -> usize
     requires { at + text.longest_line ≤ 327840 }
     ensures laid { Laid room.old at (rule.closing count (reading.end_at s.now from)) room.new result }
@@ -132,6 +142,7 @@ fn put_closing(s: &[u8], from: usize, count: u16, room: &mut [u8], at: usize) ->
 }
 
 // The events, each with the controller that the last one left, and what closes the listing.
+#[tactic(auto, using(std::proofs::lemmas::Bool::Decides::nat_tests, bench_record::proofs::Laws::Goes, bench_record::proofs::Laws::begun, bench_record::proofs::Laws::other_rest, bench_record::proofs::Laws::first_rest, bench_record::proofs::Laws::bad_line_lem, bench_record::proofs::Laws::stepped, bench_record::proofs::Laws::last_line, bench_record::proofs::Laws::laid_all, crate::proofs::Indices::step_fits))]
 fn play_events(s: &[u8], count: u16, first: usize, room: &mut [u8], at: usize) -> usize
     requires { at + 80 * count + 80 ≤ 327840 }
     ensures laid { Laid room.old at (rule.body run.fresh 0 count (reading.events_at count s.now first)) room.new result }
@@ -157,6 +168,7 @@ fn play_events(s: &[u8], count: u16, first: usize, room: &mut [u8], at: usize) -
 }
 
 // The listing, or as much of it as the room has places for; the answer is the place behind all of it.
+#[tactic(auto, using(std::proofs::lemmas::Bool::Decides::nat_tests, bench_record::proofs::Laws::count_most, bench_record::proofs::Laws::header_bad, bench_record::proofs::Laws::header_good))]
 fn put_listing(s: &[u8], room: &mut [u8]) -> usize
     ensures laid { Laid room.old 0 (rule.listing_of s.now) room.new result }
     ensures bound { result ≤ 327840 }
@@ -173,6 +185,7 @@ fn put_listing(s: &[u8], room: &mut [u8]) -> usize
 // ---- lent room
 
 // The listing's length: it is laid in no room.
+#[tactic(auto, using(std::proofs::lemmas::Bool::Decides::nat_tests))]
 fn listing_length(s: &[u8]) -> usize
     ensures { result ≡ length (rule.listing_of s.now) }
 {
@@ -181,6 +194,7 @@ fn listing_length(s: &[u8]) -> usize
 }
 
 // In room that may be too short: first for the listing's length alone, so that a refused call writes nothing.
+#[tactic(auto, using(std::proofs::lemmas::Bool::Decides::nat_tests, bench_record::proofs::Laws::listed, bench_record::proofs::Laws::unlisted))]
 fn play_twice(s: &[u8], room: &mut [u8]) -> Played
     ensures answer { result ≡ rule.played (length room.old) (rule.listing_of s.now) }
     ensures room { room.new ≡ rule.played_room room.old (rule.listing_of s.now) }
@@ -194,6 +208,7 @@ fn play_twice(s: &[u8], room: &mut [u8]) -> Played
 }
 
 // The listing of a session, in lent room; or 13, and nothing is written.
+#[tactic(auto, using(std::proofs::lemmas::Bool::Decides::nat_tests, bench_record::proofs::Laws::listed))]
 pub fn play(s: &[u8], room: &mut [u8]) -> Played
     ensures answer { result ≡ rule.played (length room.old) (rule.listing_of s.now) }
     ensures room { room.new ≡ rule.played_room room.old (rule.listing_of s.now) }

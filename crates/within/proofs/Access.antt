@@ -1,15 +1,14 @@
 -- A plain host access: no refusal is due, and a write only keeps its byte.
 use Prim.Native.Nat.{ℕ, ◌%◌, ◌≤◌, ◌<◌}
-use mathlib.Core.Bool.{Bool, true, false, not}
+use mathlib.Core.Bool.{Bool, true, false}
 use mathlib.Core.List.{List}
 use mathlib.Core.Path.{◌≡◌, refl, sym, ap, ◌∙◌}
 use native.Mathlib.Omega.{arith}
-use lib.Dec.{eqb, ltb, leb}
+use lib.Dec.{eqb, leb}
 use lib.ListN.{get_or, set}
 use borrow.Author.Tests.{eq-eqb, ne_eqb, eqb-false, le-ltb, lt-leb}
-use Rattle.line.specs.Bits.{pick}
 use Rattle.rules.specs.Definitions.Setters.{with_report, with_service, with_diagnosis}
-use Rattle.rules.specs.Definitions.Registers.{both, either, read_only, write_only, reserved, fixed_bits}
+use Rattle.rules.specs.Definitions.Registers.{read_only, write_only, reserved, fixed_bits}
 use Rattle.rules.specs.Definitions.Attempt.{is_serving, is_between}
 use Rattle.rules.specs.Definitions.Service.{aborts, stopped, settled, memory_ended, report_ended}
 use Rattle.rules.specs.Definitions.State.{is_asleep, idle_due}

@@ -1,13 +1,12 @@
 -- A refused event changes nothing; an answer by value, laid in the row, is the step rule's.
-use Prim.Native.Nat.{ℕ, zero, suc}
-use mathlib.Core.Bool.{Bool, true, false, not}
-use mathlib.Core.List.{List, [], ◌∷◌, ◌++◌}
+use Prim.Native.Nat.{ℕ}
+use mathlib.Core.Bool.{Bool, true, false}
+use mathlib.Core.List.{List, [], ◌∷◌}
 use mathlib.Core.Path.{◌≡◌, refl, sym, ap, subst, ◌∙◌}
 use native.Mathlib.Omega.{arith}
 use lib.Dec.{ltb}
 use Rattle.line.specs.Bits.{pick}
 use Rattle.rules.specs.Definitions.State.{in_range, is_active}
-use Rattle.rules.specs.Definitions.Host.{access_refusals, write_refusals, read_refusals}
 use Rattle.rules.specs.Definitions.Run.{refuse, accept, answered, rested_slot, unless_refused, pin_reset, host_write, host_read, slot, step}
 use Rattle.rules.specs.Definitions.Answers.{number, refused_by, value_of, controller, answer_lent}
 use Rattle.rules.specs.declared.Refusal.{Refusal}
@@ -16,7 +15,6 @@ use Rattle.rules.specs.declared.Reply.{Reply}
 use Rattle.rules.specs.declared.Reply.TheVariants.{Accepted, Refused}
 use Rattle.rules.specs.declared.Event.{Event}
 use Rattle.rules.specs.declared.Event.TheVariants.{Reset, Write, Read, Slot}
-use Rattle.rules.specs.declared.Core.{Core}
 use Rattle.rules.specs.declared.Controller.{Controller}
 use Rattle.rules.specs.declared.Answer.{Answer}
 use Rattle.rules.specs.declared.CoreOutcome.{CoreOutcome}
