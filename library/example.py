@@ -3,7 +3,7 @@
 
 Usage: library/example.py [SESSION]    (SESSION: a recorded session; examples/wiper.session)
 
-It loads target/library/libfrapmast.so, which `library/build` builds (Linux on x86-64), by library/frapmast.py, the module
+It loads library/out/libfrapmast.so, which `library/build` builds (Linux on x86-64), by library/frapmast.py, the module
 that makes the calls. library/frapmast.h says what each call answers.
 """
 import os

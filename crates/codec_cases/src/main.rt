@@ -292,9 +292,7 @@ fn run<W: Write>(out: &mut W, s: &[u8]) -> io::Result<()> {
 }
 
 fn main(rt: HostRuntime) -> io::Result<()> {
-    let mut text = Vec::new(rt.alloc());
-    rt.reader().take(131072).read_to_end(&mut text)?;
-    let mut out = io::BufWriter::new(rt.alloc(), io::writer(&rt))?;
-    run(&mut out, &text)?;
-    out.flush()
+    let mut text = [0u8; 131072];
+    let n = io::copy(&mut rt.reader().take(131072), &mut &mut text[..])?;
+    run(&mut io::writer(&rt), part(&text, 0, n as usize))
 }

@@ -4,18 +4,17 @@
 
 use rules::{Controller, Reply};
 use session::{End, Event, Fault, Header, Item};
-use std::alloc::Global;
 use std::io;
 use std::io::{Read, Write};
 
 fn main(rt: HostRuntime) -> io::Result<()> {
     let mut from = rt.reader();
-    let mut out = io::BufWriter::new(rt.alloc(), io::writer(&rt))?;
+    let mut out = io::writer(&rt);
     for n in 0..number(&mut from)? {
         line(&mut out, b"session ", n as u64)?;
-        play_next(rt.alloc(), &mut from, &mut out)?;
+        play_next(&mut from, &mut out)?;
     }
-    out.flush()
+    Ok(())
 }
 
 // The next byte of the input, or 0 where it has ended.
@@ -32,11 +31,11 @@ fn number<R: Read>(from: &mut R) -> io::Result<u16> {
     Ok(high * 256 + low)
 }
 
-fn play_next<R: Read, W: Write>(alloc: Global, from: &mut R, out: &mut W) -> io::Result<()> {
+fn play_next<R: Read, W: Write>(from: &mut R, out: &mut W) -> io::Result<()> {
     let length = number(from)?;
-    let mut space = Vec::new(alloc);
-    from.by_ref().take(length as u64).read_to_end(&mut space)?;
-    play(out, &space)
+    let mut space = [0u8; 65536];
+    let n = io::copy(&mut from.by_ref().take(length as u64), &mut &mut space[..])?;
+    play(out, &space[..n.min(65536) as usize])
 }
 
 // The listing of a session.

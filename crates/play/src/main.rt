@@ -8,9 +8,9 @@ use std::io;
 use std::io::{Read, Write};
 
 fn main(rt: HostRuntime) -> io::Result<()> {
-    let mut text = Vec::new(rt.alloc());
-    rt.reader().take(65536).read_to_end(&mut text)?;
-    play(&mut io::writer(&rt), &text)
+    let mut text = [0u8; 65536];
+    let n = io::copy(&mut rt.reader().take(65536), &mut &mut text[..])?;
+    play(&mut io::writer(&rt), &text[..n.min(65536) as usize])
 }
 
 // Room for any listing.

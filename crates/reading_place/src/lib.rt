@@ -38,7 +38,7 @@ fn event<'a>(r: Session<'a>) -> Item
     session::event_at(r.src, r.at)
 }
 
-// The same for a caller that holds the lent bytes and the place apart: a function over a `Session` is proved by hand, and a loop over one would be.
+// The same for a caller that holds the lent bytes and the place apart, as the player does.
 #[tactic(auto, using(std::proofs::lemmas::Bool::Decides::nat_tests))]
 pub fn event_from(s: &[u8], at: usize) -> Item
     ensures { result ≡ rule.event_at s.now at }

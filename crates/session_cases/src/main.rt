@@ -18,11 +18,9 @@ enum Outcome {
 }
 
 fn main(rt: HostRuntime) -> io::Result<()> {
-    let mut text = Vec::new(rt.alloc());
-    rt.reader().take(65536).read_to_end(&mut text)?;
-    let mut out = io::BufWriter::new(rt.alloc(), io::writer(&rt))?;
-    lines(&mut out, &text)?;
-    out.flush()
+    let mut text = [0u8; 65536];
+    let n = io::copy(&mut rt.reader().take(65536), &mut &mut text[..])?;
+    lines(&mut io::writer(&rt), &text[..n.min(65536) as usize])
 }
 
 #[tactic(auto, using(std::proofs::lemmas::Bool::Decides::nat_tests))]

@@ -1,5 +1,5 @@
 -- How a service ends, by the tally: the rules' ending is the claims' own tests.
---   end_t == the ending by these tests: ending-is in a slot, stopped_is at a host write
+--   end_t == the ending by these tests, as `Tells` says in a slot and stopped_is at a host write
 use Prim.Native.Nat.{ℕ, ◌+◌, ◌%◌, ◌≤◌}
 use mathlib.Core.Bool.{Bool, true, false, not, false≢true}
 use mathlib.Core.List.{List, [], ◌∷◌, ◌++◌}
