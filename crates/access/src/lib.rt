@@ -1,45 +1,22 @@
-// Pin reset and host access by value. Each answers what the step rule says (01, Numbers refused; Session and listing).
+// Whether a host access is open, to a state in its ranges: the first refusals of a write and a read behind 6 (01, Numbers refused).
 #![tactic(auto)]
 
 ghost use Rattle.std.specs.Prelude.{◌≡◌};
 ghost use Rattle.rules.specs.Definitions.Run as run;
-ghost use Rattle.rules.specs.Definitions.Answers as answers;
-ghost use Rattle.rules.specs.declared.Event.TheVariants as event;
+ghost use Rattle.access.specs.Open as rule;
 
-use rules::{Controller, Outcome};
+use rules::{Core, Refusal};
 
-#[tactic(auto, using(std::proofs::lemmas::Bool::Decides::nat_tests), unfolding(rules::specs::Definitions::Answers::answer_of, rules::specs::Definitions::Answers::answer_lent, rules::specs::Definitions::Run::step))]
-pub fn pin_reset(c: Controller) -> Outcome
-    ensures { answers.answer_of result ≡ run.step c event.Reset }
+// 7, 1.
+#[tactic(auto, using(std::proofs::lemmas::Bool::Decides::nat_tests), unfolding(crate::specs::Open::open_refusals, rules::specs::Definitions::Run::first_due))]
+pub fn open(k: &Core, address: u16) -> Result<(), Refusal>
+    ensures { result ≡ run.first_due (rule.open_refusals k.now address) }
 {
-    let mut t = c;
-    let x = host::pin_reset_on(&mut t.memory, c.core);
-    let k = x.next; // the state reset
-    t.core = k;
-    let reply = x.reply;
-    Outcome { reply, next: t }
-}
-
-#[tactic(auto, using(std::proofs::lemmas::Bool::Decides::nat_tests), unfolding(rules::specs::Definitions::Answers::answer_of, rules::specs::Definitions::Answers::answer_lent, rules::specs::Definitions::Run::step))]
-pub fn host_write(c: Controller, address: u16, value: u16) -> Outcome
-    ensures { answers.answer_of result ≡ run.step c (event.Write address value) }
-{
-    let mut t = c;
-    let x = host::host_write_on(&mut t.memory, c.core, address, value);
-    let k = x.next;
-    t.core = k;
-    let reply = x.reply;
-    Outcome { reply, next: t }
-}
-
-#[tactic(auto, using(std::proofs::lemmas::Bool::Decides::nat_tests), unfolding(rules::specs::Definitions::Answers::answer_of, rules::specs::Definitions::Answers::answer_lent, rules::specs::Definitions::Run::step))]
-pub fn host_read(c: Controller, address: u16) -> Outcome
-    ensures { answers.answer_of result ≡ run.step c (event.Read address) }
-{
-    let mut t = c;
-    let x = host_read::host_read_on(&t.memory, c.core, address);
-    let k = x.next;
-    t.core = k;
-    let reply = x.reply;
-    Outcome { reply, next: t }
+    if modes::is_asleep(k.activity) {
+        return Err(Refusal::Asleep); // 7 before 1
+    }
+    if 255 < address {
+        return Err(Refusal::Address);
+    }
+    Ok(())
 }

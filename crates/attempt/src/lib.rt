@@ -1,10 +1,11 @@
 // An attempt to send: its judgement slot by slot, and what it spends (01, Sending; 02, Req 01).
 #![tactic(auto)]
 
-ghost use Rattle.std.specs.Prelude.{◌≡◌, ◌+◌, ◌<◌};
+ghost use Rattle.std.specs.Prelude.{◌≡◌, ◌<◌};
 ghost use Rattle.rules.specs.Definitions.Attempt as rule;
 ghost use Rattle.rules.specs.Definitions.Service as service_rule;
 ghost use Rattle.rules.specs.Definitions.Mailbox as mailbox;
+ghost use Rattle.rules.specs.Definitions.Setters as setter;
 ghost use Rattle.attempt.specs.Following as place;
 ghost use Rattle.attempt.specs.Level as level;
 
@@ -14,28 +15,14 @@ use rules::{
     Attempts, Coded, Counters, Delivery, Effort, Hearing, Progress, Stage, Timeslots, Verdict,
 };
 
-// What a sample is for the attempt, and its place and counts after it.
-#[derive(Clone, Copy)]
-pub struct Trial {
-    pub verdict: Verdict,
-    pub progress: Progress,
-    pub counters: Counters,
-}
-
 // ---- counts: they stop at their largest
-
-const LARGEST: u32 = 4294967295;
 
 // One slot more.
 #[tactic(auto, using(std::proofs::lemmas::Bool::Decides::nat_tests), unfolding(rules::specs::Definitions::Attempt::more_slots))]
 fn more_slots(t: Timeslots) -> Timeslots
     ensures { result ≡ rule.more_slots t }
 {
-    let x = t.0;
-    if x < LARGEST {
-        return Timeslots(x + 1);
-    }
-    t
+    Timeslots(t.0.saturating_add(1))
 }
 
 // One attempt more.
@@ -43,11 +30,7 @@ fn more_slots(t: Timeslots) -> Timeslots
 fn more_attempts(t: Attempts) -> Attempts
     ensures { result ≡ rule.more_attempts t }
 {
-    let x = t.0;
-    if x < LARGEST {
-        return Attempts(x + 1);
-    }
-    t
+    Attempts(t.0.saturating_add(1))
 }
 
 // ---- the sender's judgement
@@ -60,11 +43,8 @@ const PRESENT: u8 = 0;
 fn due(n: u8, low: u8, k: u16, d: u8) -> u8
     ensures { result ≡ level.due_level n low k d }
 {
-    if k == 51 + 10 * (n as u16) {
-        if channels::acknowledge_asked(low) {
-            return PRESENT;
-        }
-        return d;
+    if k == 51 + 10 * u16::from(n) && channels::acknowledge_asked(low) {
+        return PRESENT;
     }
     d
 }
@@ -74,11 +54,7 @@ fn due(n: u8, low: u8, k: u16, d: u8) -> u8
 fn open_half(h: Half) -> bool
     ensures { result ≡ rule.open_half h }
 {
-    match h {
-        Half::Plain => true,
-        Half::First => true,
-        Half::Second => false,
-    }
+    !matches!(h, Half::Second)
 }
 
 // Identifier, command or data: there contention may be lost.
@@ -86,17 +62,7 @@ fn open_half(h: Half) -> bool
 fn arbitrated(p: Part) -> bool
     ensures { result ≡ rule.arbitrated p }
 {
-    match p {
-        Part::Start => false,
-        Part::Identifier => true,
-        Part::Command => true,
-        Part::Data => true,
-        Part::Check => false,
-        Part::EndOfData => false,
-        Part::Acknowledge => false,
-        Part::EndOfFrame => false,
-        Part::After => false,
-    }
+    matches!(p, Part::Identifier | Part::Command | Part::Data)
 }
 
 // The check.
@@ -104,17 +70,7 @@ fn arbitrated(p: Part) -> bool
 fn in_check(p: Part) -> bool
     ensures { result ≡ rule.in_check p }
 {
-    match p {
-        Part::Start => false,
-        Part::Identifier => false,
-        Part::Command => false,
-        Part::Data => false,
-        Part::Check => true,
-        Part::EndOfData => false,
-        Part::Acknowledge => false,
-        Part::EndOfFrame => false,
-        Part::After => false,
-    }
+    matches!(p, Part::Check)
 }
 
 // The acknowledge.
@@ -122,17 +78,7 @@ fn in_check(p: Part) -> bool
 fn in_acknowledge(p: Part) -> bool
     ensures { result ≡ rule.in_acknowledge p }
 {
-    match p {
-        Part::Start => false,
-        Part::Identifier => false,
-        Part::Command => false,
-        Part::Data => false,
-        Part::Check => false,
-        Part::EndOfData => false,
-        Part::Acknowledge => true,
-        Part::EndOfFrame => false,
-        Part::After => false,
-    }
+    matches!(p, Part::Acknowledge)
 }
 
 // A difference in part p; o: recessive is driven in a plain bit or first half.
@@ -140,10 +86,10 @@ fn in_acknowledge(p: Part) -> bool
 fn difference_in(p: Part, o: bool) -> Verdict
     ensures { result ≡ rule.difference_in p o }
 {
-    if (o) & (arbitrated(p)) {
+    if o && arbitrated(p) {
         return Verdict::Lost;
     }
-    if (o) & (in_check(p)) {
+    if o && in_check(p) {
         return Verdict::Failed(Code::FCSE);
     }
     if in_acknowledge(p) {
@@ -157,11 +103,10 @@ fn difference_in(p: Part, o: bool) -> Verdict
 fn difference(n: u8, k: u16, d: u8) -> Verdict
     ensures { result ≡ rule.difference n k d }
 {
-    let p = line::part_of(n, k);
-    if d == 1 {
-        return difference_in(p, open_half(line::half_of(n, k)));
-    }
-    difference_in(p, false)
+    difference_in(
+        line::part_of(n, k),
+        d == 1 && open_half(line::half_of(n, k)),
+    )
 }
 
 // R/W 1 and RTR 1.
@@ -174,8 +119,8 @@ fn asks_reply(low: u8) -> bool
 
 // A reply request.
 #[tactic(auto, using(std::proofs::lemmas::Bool::Decides::nat_tests), unfolding(rules::specs::Definitions::Attempt::is_request))]
-pub fn is_request(x: Coded) -> bool
-    ensures { result ≡ rule.is_request x }
+pub fn is_request(x: &Coded) -> bool
+    ensures { result ≡ rule.is_request x.now }
 {
     asks_reply(x.bytes[1])
 }
@@ -189,12 +134,12 @@ pub fn judge_level(n: u8, low: u8, k: u16, d: u8, v: u8) -> Verdict
     ensures { result ≡ level.judge_level n low k d v }
 {
     if v == due(n, low, k, d) {
-        if k as u32 + 1 < 60 + 10 * (n as u32) {
+        if u32::from(k) + 1 < 60 + 10 * u32::from(n) {
             return Verdict::Goes;
         }
         return Verdict::Done;
     }
-    if (k == RTR_SLOT) & (asks_reply(low)) {
+    if k == RTR_SLOT && asks_reply(low) {
         return Verdict::Answered;
     }
     difference(n, k, d)
@@ -206,21 +151,19 @@ fn good_for(d: Delivery) -> Verdict
     ensures { result ≡ service_rule.good_for d }
 {
     match d {
-        Delivery::Nothing => Verdict::Failed(Code::CV),
+        Delivery::Nothing | Delivery::Spoiled => Verdict::Failed(Code::CV),
         Delivery::Stored => Verdict::Done,
         Delivery::Overflowed => Verdict::Failed(Code::BOV),
-        Delivery::Spoiled => Verdict::Failed(Code::CV),
     }
 }
 
 // What a sample of the frame that answers it is for an attempt.
 #[tactic(auto, using(std::proofs::lemmas::Bool::Decides::nat_tests), unfolding(rules::specs::Definitions::Service::answered_as))]
-fn answered_as(h: Hearing, d: Delivery) -> Verdict
+pub fn answered_as(h: Hearing, d: Delivery) -> Verdict
     ensures { result ≡ service_rule.answered_as h d }
 {
     match h {
-        Hearing::Silent => Verdict::Answered,
-        Hearing::Follows => Verdict::Answered,
+        Hearing::Silent | Hearing::Follows => Verdict::Answered,
         Hearing::Fault(code) => Verdict::Failed(code),
         Hearing::Good => good_for(d),
     }
@@ -230,108 +173,67 @@ fn answered_as(h: Hearing, d: Delivery) -> Verdict
 
 // One slot more.
 #[tactic(auto, using(std::proofs::lemmas::Bool::Decides::nat_tests), unfolding(rules::specs::Definitions::Attempt::slot_spent))]
-fn slot_spent(c: Counters) -> Counters
-    ensures { result ≡ rule.slot_spent c }
+fn spend_slot(c: &mut Counters)
+    ensures { c.new ≡ rule.slot_spent c.old }
 {
-    let mut t = c;
-    t.slots = more_slots(c.slots);
-    t
+    c.slots = more_slots(c.slots);
 }
 
 // One slot and one lost attempt more: no retry is spent.
 #[tactic(auto, using(std::proofs::lemmas::Bool::Decides::nat_tests), unfolding(rules::specs::Definitions::Attempt::lost_spent, rules::specs::Definitions::Attempt::slot_spent))]
-fn lost_spent(c: Counters) -> Counters
-    ensures { result ≡ rule.lost_spent c }
+fn spend_lost(c: &mut Counters)
+    ensures { c.new ≡ rule.lost_spent c.old }
 {
-    let mut t = slot_spent(c);
-    t.lost = more_attempts(c.lost);
-    t
+    spend_slot(c);
+    c.lost = more_attempts(c.lost);
 }
 
 // One slot and one error more.
 #[tactic(auto, using(std::proofs::lemmas::Bool::Decides::nat_tests), unfolding(rules::specs::Definitions::Attempt::error_spent, rules::specs::Definitions::Attempt::slot_spent))]
-fn error_spent(c: Counters) -> Counters
-    ensures { result ≡ rule.error_spent c }
+fn spend_error(c: &mut Counters)
+    ensures { c.new ≡ rule.error_spent c.old }
 {
-    let mut t = slot_spent(c);
-    t.errors = more_attempts(c.errors);
-    t
+    spend_slot(c);
+    c.errors = more_attempts(c.errors);
 }
 
-// The attempt goes on to its next slot, has ended, or is answered.
-#[tactic(auto, using(std::proofs::lemmas::Bool::Decides::nat_tests), unfolding(crate::specs::Level::progress_after, crate::specs::Following::following))]
-fn progress_after(w: Verdict, p: Progress) -> Progress
-    requires { place.following w p.at < 65536 }
-    ensures { result ≡ level.progress_after w p }
-{
-    match w {
-        Verdict::Unjudged => p,
-        Verdict::Goes => stage::at_stage(Stage::Sending, p.at + 1),
-        Verdict::Lost => stage::at_stage(Stage::Waiting, 0),
-        Verdict::Failed(_) => stage::at_stage(Stage::Waiting, 0),
-        Verdict::Done => stage::at_stage(Stage::Waiting, 0),
-        Verdict::Answered => stage::at_stage(Stage::Receiving, 0),
-    }
-}
-
-// What it has spent.
-#[tactic(auto, using(std::proofs::lemmas::Bool::Decides::nat_tests), unfolding(crate::specs::Level::counters_after))]
-fn counters_after(w: Verdict, c: Counters) -> Counters
-    ensures { result ≡ level.counters_after w c }
-{
-    match w {
-        Verdict::Unjudged => c,
-        Verdict::Goes => slot_spent(c),
-        Verdict::Lost => lost_spent(c),
-        Verdict::Failed(_) => error_spent(c),
-        Verdict::Done => slot_spent(c),
-        Verdict::Answered => slot_spent(c),
-    }
-}
-
+// One slot more; then the place is p.
 #[tactic(auto, using(std::proofs::lemmas::Bool::Decides::nat_tests))]
-fn advance(w: Verdict, p: Progress, c: Counters) -> Trial
-    requires { place.following w p.at < 65536 }
-    ensures verdict { result.verdict ≡ w }
-    ensures progress { result.progress ≡ level.progress_after w p }
-    ensures counters { result.counters ≡ level.counters_after w c }
+fn go_on(e: &mut Effort, p: Progress)
+    ensures { e.new ≡ setter.with_counters (setter.with_progress e.old p) (rule.slot_spent e.old.counters) }
 {
-    Trial {
-        verdict: w,
-        progress: progress_after(w, p),
-        counters: counters_after(w, c),
+    e.progress = p;
+    spend_slot(&mut e.counters);
+}
+
+// The effort after a sample that is w for the attempt: it goes on to its next slot, has ended, or is answered.
+#[tactic(auto, using(std::proofs::lemmas::Bool::Decides::nat_tests), unfolding(rules::specs::Definitions::Attempt::advance, crate::specs::Following::following))]
+pub fn advance(e: &mut Effort, w: Verdict)
+    requires { place.following w e.old.progress.at < 65536 }
+    ensures { e.new ≡ rule.advance w e.old }
+{
+    match w {
+        Verdict::Unjudged => {}
+        Verdict::Goes => go_on(e, stage::at_stage(Stage::Sending, e.progress.at + 1)),
+        Verdict::Lost => {
+            e.progress = stage::at_stage(Stage::Waiting, 0);
+            spend_lost(&mut e.counters);
+        }
+        Verdict::Failed(_) => {
+            e.progress = stage::at_stage(Stage::Waiting, 0);
+            spend_error(&mut e.counters);
+        }
+        Verdict::Done => go_on(e, stage::at_stage(Stage::Waiting, 0)),
+        Verdict::Answered => go_on(e, stage::at_stage(Stage::Receiving, 0)),
     }
-}
-
-// A slot of the attempt in which d is driven: what its sample is, and place and counts after it.
-#[tactic(auto, using(std::proofs::lemmas::Bool::Decides::nat_tests, crate::proofs::Room::room))]
-pub fn tried(n: u8, low: u8, d: u8, p: Progress, c: Counters, v: u8) -> Trial
-    ensures verdict { result.verdict ≡ level.judge_level n low p.at d v }
-    ensures progress { result.progress ≡ level.progress_after (level.judge_level n low p.at d v) p }
-    ensures counters { result.counters ≡ level.counters_after (level.judge_level n low p.at d v) c }
-{
-    let w = judge_level(n, low, p.at, d, v);
-    advance(w, p, c)
-}
-
-// A slot of an attempt that is answered: h and d are what its sample is for the line, and what it delivers.
-#[tactic(auto, using(std::proofs::lemmas::Bool::Decides::nat_tests, crate::proofs::Room::awaited_room))]
-pub fn awaited(p: Progress, c: Counters, h: Hearing, d: Delivery) -> Trial
-    ensures verdict { result.verdict ≡ service_rule.answered_as h d }
-    ensures progress { result.progress ≡ level.progress_after (service_rule.answered_as h d) p }
-    ensures counters { result.counters ≡ level.counters_after (service_rule.answered_as h d) c }
-{
-    let heard = answered_as(h, d);
-    advance(heard, p, c)
 }
 
 // ---- the end of the service
 
 // Error R + 1.
 #[tactic(auto, using(std::proofs::lemmas::Bool::Decides::nat_tests), unfolding(rules::specs::Definitions::Attempt::exhausted))]
-pub fn exhausted(e: Effort) -> bool
-    ensures { result ≡ rule.exhausted e }
+pub fn exhausted(e: &Effort) -> bool
+    ensures { result ≡ rule.exhausted e.now }
 {
-    let errors = e.counters.errors;
-    (e.setting as u32) < errors.0
+    u32::from(e.setting) < e.counters.errors.0
 }

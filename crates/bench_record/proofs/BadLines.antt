@@ -3,9 +3,8 @@ use Prim.Native.Nat.{ℕ}
 use mathlib.Core.List.{List, ◌++◌, append_assoc}
 use mathlib.Core.Path.{◌≡◌, refl, sym}
 use Rattle.leb128.specs.Leb128.{decode, groups, before}
-use Rattle.session.specs.Reading.{fault_number, refusal, placed, varint_at, counted, versioned, header_at, valued, operands, kinded, event_at, end_at, follow, Events, events_at, NoHeader, Counted, started, session, most_events}
+use Rattle.session.specs.Reading.{fault_number, refusal, placed, varint_at, counted, versioned, header_at, valued, operands, kinded, event_at, end_at, follow, Events, events_at, NoHeader, Counted, started, session, most_events, bad}
 use Rattle.session.specs.declared.Fault.{Fault}
-use Rattle.session.specs.declared.End.TheVariants.{Bad}
 use Rattle.rules.specs.Definitions.Run.{fresh}
 use Rattle.listing.specs.Listing.{decimal_in, decimal, events_line, bad_line}
 use Rattle.bench_record.specs.Claims.{BadLines}
@@ -15,7 +14,7 @@ in_header : (s : List ℕ) (f : Fault) (p k : ℕ) → session most_events s ≡
 unfolding listing_of listing
 in_header s f p k e = rw e
 
-behind_events : (s : List ℕ) (count : ℕ) (r : Events) (f : Fault) (p k : ℕ) → session most_events s ≡ Counted count r → r.end ≡ Bad f p k
+behind_events : (s : List ℕ) (count : ℕ) (r : Events) (f : Fault) (p k : ℕ) → session most_events s ≡ Counted count r → r.end ≡ bad f p k
     → listing_of s ≡ (events_line count ++ lines fresh 0 r.events) ++ bad_line (fault_number f) p k
 unfolding listing_of listing body closing
 behind_events s count r f p k e i = rw (e, i) (sym (append_assoc (events_line count) (lines fresh 0 r.events) (bad_line (fault_number f) p k)))

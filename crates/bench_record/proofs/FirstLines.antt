@@ -7,8 +7,7 @@ use lib.ListN.{length, take}
 use Rattle.leb128.specs.Leb128.{Bytes, uleb128}
 use Rattle.session.specs.declared.Fault.{Fault}
 use Rattle.session.specs.declared.Event.{Event}
-use Rattle.session.specs.declared.End.TheVariants.{Bad}
-use Rattle.session.specs.Reading.{most_events, Events, Reading, NoHeader, Counted, session, events_at}
+use Rattle.session.specs.Reading.{most_events, Events, Reading, NoHeader, Counted, session, events_at, bad}
 use Rattle.session.specs.Writing.{events_bytes, AllFit}
 use Rattle.session.proofs.Whole.{begins}
 use Rattle.session.specs.Claims.{Begins}
@@ -50,7 +49,7 @@ begun_so count es (NoHeader f p k) b = absurd b
 begun_so count es (Counted d r) b = rw b.0 (listing_begins count es r b.1.0 b.1.1)
 
 -- The lines before a `bad` are the same whatever follows its place.
-pub before_a_fault : (s : List ℕ) → Bytes s → (count : ℕ) (r : Events) → session most_events s ≡ Counted count r → (f : Fault) (p k : ℕ) → r.end ≡ Bad f p k
+pub before_a_fault : (s : List ℕ) → Bytes s → (count : ℕ) (r : Events) → session most_events s ≡ Counted count r → (f : Fault) (p k : ℕ) → r.end ≡ bad f p k
     → (t : List ℕ) → BeginsWith count r.events (listing_of (take p s ++ t))
 unfolding listing_of
 before_a_fault s b count r e f p k i t = begun_so count r.events (session most_events (take p s ++ t)) (prefix most_events s b count r e f p k i t)

@@ -1,9 +1,10 @@
 -- Laws: the listing line by line, and laid in lent room line by line.
-use Prim.Native.Nat.{ℕ, suc, ◌+◌, ◌-◌, ◌≤◌, ◌<◌}
+use Rattle.std.specs.Prelude.{Option, Some, None, Err}
+use Prim.Native.Nat.{ℕ, ◌+◌, ◌≤◌, ◌<◌}
 use mathlib.Core.Bool.{Bool, true, false}
-use mathlib.Core.List.{List, ◌++◌, append_assoc}
+use mathlib.Core.List.{List, ◌++◌}
 use mathlib.Core.Path.{◌≡◌, refl, sym, ◌∙◌}
-use native.Mathlib.Nat.{zero-add, sub-zero}
+use native.Mathlib.Nat.{zero-add}
 use native.Mathlib.Omega.{arith}
 use borrow.Author.Tests.{ltb-false, le-ltb, lt-ltb}
 use lib.Dec.{ltb, eqb}
@@ -13,41 +14,13 @@ use Rattle.line.proofs.Room.{sets_append}
 use Rattle.leb128.specs.Leb128.{pick}
 use Rattle.session.specs.declared.Fault.{Fault}
 use Rattle.session.specs.declared.Fault.TheVariants.{Count, Version}
-use Rattle.session.specs.declared.Event.{Event}
-use Rattle.session.specs.declared.Varint.{Varint}
-use Rattle.session.specs.declared.Varint.TheVariants.{Value, Bad as BadVarint}
-use Rattle.session.specs.declared.Header.{Header}
-use Rattle.session.specs.declared.Header.TheVariants.{Good, Bad as BadHeader}
-use Rattle.session.specs.declared.Item.TheVariants.{Next, Bad as BadItem}
-use Rattle.session.specs.Reading.{most_events, fault_number, varint_at, counted, versioned, header_at, event_at, end_at, events_at}
-use Rattle.session.proofs.Walk.{no_header, counts, none_due, stops, goes_on}
+use Rattle.session.specs.Reading.{most_events, fault_number, varint_at, counted, versioned, header_at, events_at, bad, Varint, Header, Value, Good}
+use Rattle.session.proofs.Walk.{no_header, counts}
 use Rattle.rules.specs.Definitions.Run.{fresh}
-use Rattle.rules.specs.declared.Controller.{Controller}
-use Rattle.listing.specs.Listing.{line, events_line, bad_line}
+use Rattle.listing.specs.Listing.{events_line, bad_line}
 use Rattle.listing.specs.Laid.{Laid}
 use Rattle.listing.proofs.Laws.{joined}
-use Rattle.bench_record.specs.Record.{answer_to, lines, closing, body, listing, listing_of, played, played_room}
-use Rattle.bench_record.specs.declared.Played.{Played}
-use Rattle.bench_record.specs.declared.Played.TheVariants.{Listed, Short}
-
--- ---- what is due from the event number `index` on
-
-module _ (c : Controller) (s : List ℕ) (count index at : ℕ) where
-  pub next_line : {e : Event} {next : ℕ} → index < count → event_at s at ≡ Next e next
-      → body c index count (events_at (count - index) s at)
-      ≡ line index e (answer_to c e).refused (answer_to c e).value ++ body (answer_to c e).next (index + 1) count (events_at (count - (index + 1)) s next)
-  unfolding body lines
-  next_line {e} {next} h i =
-      let d : count - index ≡ suc (count - (index + 1)) = omega arith in
-      rw (d, goes_on s at (count - (index + 1)) i) (append_assoc (line index e (answer_to c e).refused (answer_to c e).value) _ _)
-
-  pub bad_line_lem : {f : Fault} {p k : ℕ} → index < count → event_at s at ≡ BadItem f p k → body c index count (events_at (count - index) s at) ≡ bad_line (fault_number f) p k
-  unfolding body lines closing
-  bad_line_lem h i = let d : count - index ≡ suc (count - (index + 1)) = omega arith in rw (d, stops s at (count - (index + 1)) i)
-
-  pub last_line : count ≤ index → body c index count (events_at (count - index) s at) ≡ closing count (end_at s at)
-  unfolding body lines
-  last_line h = let d : count - index ≡ 0 = omega arith in rw (d, none_due s at)
+use Rattle.bench_record.specs.Record.{body, listing, listing_of, played, played_room}
 
 -- ---- a text of which the rest is still to be laid
 
@@ -68,23 +41,9 @@ laid_on {now = now} {rest} {part = part} {place = place} g l =
 pub laid_all : {room text now rest after : List ℕ} {at place p : ℕ} → Goes room at text now place rest → Laid now place rest after p → Laid room at text after p
 laid_all g l = record { room = l.room ∙ sym g.room_is; behind = l.behind ∙ sym g.place_is }
 
-pub other_rest : {room text now rest rest' : List ℕ} {at place : ℕ} → rest ≡ rest' → Goes room at text now place rest → Goes room at text now place rest'
-other_rest e g = rw (← e) g
-
--- ---- the lines as the code lays them
-
-pub first_rest : (c : Controller) → c ≡ fresh → (s : List ℕ) (count at : ℕ) → body fresh 0 count (events_at count s at) ≡ body c 0 count (events_at (count - 0) s at)
-first_rest c e s count at = rw (e, sub-zero)
-
-pub stepped : {room text now after : List ℕ} {at place p : ℕ} (c c' : Controller) (s : List ℕ) (count index from : ℕ) {e : Event} {next : ℕ}
-    → Goes room at text now place (body c index count (events_at (count - index) s from)) → index < count → event_at s from ≡ Next e next → c' ≡ (answer_to c e).next
-    → Laid now place (line index e (answer_to c e).refused (answer_to c e).value) after p
-    → Goes room at text after p (body c' (index + 1) count (events_at (count - (index + 1)) s next))
-stepped c c' s count index from g h i d l = rw d (laid_on (other_rest (next_line c s count index from h i) g) l)
-
 -- ---- the whole listing, in room that holds it or not; a text made aside
 
-pub listed : (room text after : List ℕ) (n : ℕ) → n ≤ length room → Laid room 0 text after n → (Listed n ≡ played (length room) text) × (after ≡ played_room room text)
+pub listed : (room text after : List ℕ) (n : ℕ) → n ≤ length room → Laid room 0 text after n → (Some n ≡ played (length room) text) × (after ≡ played_room room text)
 unfolding played played_room
 listed room text after n h l =
     let e : n ≡ length text = l.behind ∙ zero-add (length text) in
@@ -92,7 +51,7 @@ listed room text after n h l =
     let g : sets room 0 text ≡ text ++ drop (length text) room = sets-eq text room 0 (omega arith) ∙ rw zero-add in
     (rw (f, e), rw f (l.room ∙ g))
 
-pub unlisted : (room text : List ℕ) (n : ℕ) → length room < n → n ≡ length text → (Short ≡ played (length room) text) × (room ≡ played_room room text)
+pub unlisted : (room text : List ℕ) (n : ℕ) → length room < n → n ≡ length text → (None ≡ played (length room) text) × (room ≡ played_room room text)
 unfolding played played_room
 unlisted room text n h e =
     let f : ltb (length room) (length text) ≡ true = lt-ltb (length room) (length text) (omega arith) in
@@ -109,23 +68,23 @@ copied room text aside after copy at n r h l c =
 
 abbrev pub count_of : Header → ℕ
 count_of (Good c next) = c
-count_of (BadHeader f p k) = 0
+count_of (Err err) = 0
 
 counted_most : (most at : ℕ) (r : Varint) → count_of (counted most at r) ≤ most
 unfolding counted
-counted_most most at (BadVarint f p k) = omega arith
+counted_most most at (Err err) = omega arith
 counted_most most at (Value c next used) = go (ltb most c) (ltb-false most c)
   where
-    go : (t : Bool) → (t ≡ false → c ≤ most) → count_of (pick t (BadHeader Count at used) (Good c next)) ≤ most
+    go : (t : Bool) → (t ≡ false → c ≤ most) → count_of (pick t (bad Count at used) (Good c next)) ≤ most
     go true h = omega arith
     go false h = h refl
 
 versioned_most : (most : ℕ) (s : List ℕ) (at : ℕ) (r : Varint) → count_of (versioned most s at r) ≤ most
 unfolding versioned
-versioned_most most s at (BadVarint f p k) = omega arith
+versioned_most most s at (Err err) = omega arith
 versioned_most most s at (Value v next used) = go (eqb v 1)
   where
-    go : (t : Bool) → count_of (pick t (counted most next (varint_at s next)) (BadHeader Version at used)) ≤ most
+    go : (t : Bool) → count_of (pick t (counted most next (varint_at s next)) (bad Version at used)) ≤ most
     go true = counted_most most next (varint_at s next)
     go false = omega arith
 
@@ -133,7 +92,7 @@ pub count_most : (most : ℕ) (s : List ℕ) (at c next : ℕ) → header_at mos
 unfolding header_at
 count_most most s at c next e = rw e at (versioned_most most s at (varint_at s at))
 
-pub header_bad : {room after : List ℕ} {r : ℕ} (s : List ℕ) {p k : ℕ} {f : Fault} → header_at most_events s 0 ≡ BadHeader f p k → Laid room 0 (bad_line (fault_number f) p k) after r
+pub header_bad : {room after : List ℕ} {r : ℕ} (s : List ℕ) {p k : ℕ} {f : Fault} → header_at most_events s 0 ≡ bad f p k → Laid room 0 (bad_line (fault_number f) p k) after r
     → Laid room 0 (listing_of s) after r
 unfolding listing_of listing
 header_bad s e l = rw (no_header most_events s e) l
@@ -145,14 +104,14 @@ header_good s c next e k l = rw (counts most_events s e) (joined k l)
 
 -- ---- what is listed lies in the room
 
-abbrev length_of : Played → ℕ
-length_of (Listed n) = n
-length_of Short = 0
+abbrev length_of : Option ℕ → ℕ
+length_of (Some n) = n
+length_of None = 0
 
-pub listed_fits : (room : ℕ) (text : List ℕ) (n : ℕ) → Listed n ≡ played room text → n ≤ room
+pub listed_fits : (room : ℕ) (text : List ℕ) (n : ℕ) → Some n ≡ played room text → n ≤ room
 unfolding played
 listed_fits room text n e = rw (← e) at (go (ltb room (length text)) (ltb-false room (length text)))
   where
-    go : (t : Bool) → (t ≡ false → length text ≤ room) → length_of (pick t Short (Listed (length text))) ≤ room
+    go : (t : Bool) → (t ≡ false → length text ≤ room) → length_of (pick t None (Some (length text))) ≤ room
     go true h = omega arith
     go false h = h refl

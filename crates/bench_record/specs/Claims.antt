@@ -1,10 +1,9 @@
 -- What is claimed of a listing's first lines, and of its line `bad`.
 use Rattle.std.specs.Prelude.{ℕ, ◌≤◌, List, [], ◌∷◌, ◌++◌, ◌≡◌, length, take}
 use Rattle.leb128.specs.Leb128.{Bytes, uleb128}
-use Rattle.session.specs.Reading.{fault_number, most_events, Events, NoHeader, Counted, session}
+use Rattle.session.specs.Reading.{fault_number, most_events, Events, NoHeader, Counted, session, bad}
 use Rattle.session.specs.Writing.{events_bytes, AllFit}
 use Rattle.session.specs.declared.Fault.{Fault}
-use Rattle.session.specs.declared.End.TheVariants.{Bad}
 use Rattle.session.specs.declared.Event.{Event}
 use Rattle.rules.specs.Definitions.Run.{fresh}
 use Rattle.listing.specs.Listing.{events_line, bad_line}
@@ -21,13 +20,13 @@ FirstLines = (count : ℕ) (es : List Event) → count ≤ most_events → lengt
 -- "session events before a bad one stand": the lines before a `bad` are the same whatever follows its place
 abbrev pub LinesStand : Type 0
 LinesStand =
-    (s : List ℕ) → Bytes s → (count : ℕ) (r : Events) → session most_events s ≡ Counted count r → (f : Fault) (p k : ℕ) → r.end ≡ Bad f p k → (t : List ℕ)
+    (s : List ℕ) → Bytes s → (count : ℕ) (r : Events) → session most_events s ≡ Counted count r → (f : Fault) (p k : ℕ) → r.end ≡ bad f p k → (t : List ℕ)
     → BeginsWith count r.events (listing_of (take p s ++ t))
 
 -- 02, Req 02: "the `bad` line gains ` after K`". It is the only line, or the last one behind those of the events read.
 pub record BadLines : Type 0 where
   pub header : (s : List ℕ) (f : Fault) (p k : ℕ) → session most_events s ≡ NoHeader f p k → listing_of s ≡ bad_line (fault_number f) p k
-  pub events : (s : List ℕ) (count : ℕ) (r : Events) (f : Fault) (p k : ℕ) → session most_events s ≡ Counted count r → r.end ≡ Bad f p k
+  pub events : (s : List ℕ) (count : ℕ) (r : Events) (f : Fault) (p k : ℕ) → session most_events s ≡ Counted count r → r.end ≡ bad f p k
       → listing_of s ≡ (events_line count ++ lines fresh 0 r.events) ++ bad_line (fault_number f) p k
   -- closed lines, in bytes: one of each fault, and one with a long place
   -- "bad 30 at 0 after 0"

@@ -1,19 +1,15 @@
 -- 01, Session and listing: the listing of a session.
 --   answer_to == the controller's answer to an event        lines == the lines of events        listing_of == the whole listing
-use Rattle.std.specs.Prelude.{ℕ, ◌+◌, List, [], ◌∷◌, ◌++◌, ltb, length, drop}
+use Rattle.std.specs.Prelude.{ℕ, Option, Some, None, ◌+◌, List, [], ◌∷◌, ◌++◌, ltb, length, drop, Err}
 use Rattle.leb128.specs.Leb128.{pick}
 use Rattle.session.specs.declared.Event.{Event}
 use Rattle.session.specs.declared.Event.TheVariants.{Reset, Write, Read, Slot, Mark}
-use Rattle.session.specs.declared.End.{End}
-use Rattle.session.specs.declared.End.TheVariants.{Clean, Bad}
-use Rattle.session.specs.Reading.{most_events, fault_number, Events, Reading, NoHeader, Counted, session}
+use Rattle.session.specs.Reading.{most_events, fault_number, Events, Reading, NoHeader, Counted, session, End, Clean}
 use Rattle.rules.specs.Definitions.Run.{fresh, step, accept}
 use Rattle.rules.specs.declared.Event.TheVariants as controls
 use Rattle.rules.specs.declared.Controller.{Controller}
 use Rattle.rules.specs.declared.Answer.{Answer}
 use Rattle.listing.specs.Listing.{line, events_line, end_line, bad_line}
-use Rattle.bench_record.specs.declared.Played.{Played}
-use Rattle.bench_record.specs.declared.Played.TheVariants.{Listed, Short}
 
 -- An event of a session is one of the controller, by the step rule; "a mark, no effect".
 unfoldable pub answer_to : Controller → Event → Answer
@@ -31,7 +27,7 @@ lines c index (e ∷ es) = line index e (answer_to c e).refused (answer_to c e).
 -- "On 30 to 36 the earlier lines stand, then `bad 31 at P` ..; no `end`." 02, Req 02: the line ends in ` after K`.
 unfoldable pub closing : ℕ → End → List ℕ
 closing count Clean = end_line count
-closing count (Bad f p k) = bad_line (fault_number f) p k
+closing count (Err err) = bad_line (fault_number err.why) err.at err.looked
 
 unfoldable pub body : Controller → ℕ → ℕ → Events → List ℕ
 body c index count r = lines c index r.events ++ closing count r.end
@@ -45,12 +41,12 @@ unfoldable pub listing_of : List ℕ → List ℕ
 listing_of s = listing (session most_events s)
 
 -- 01, Numbers refused: 13, "output too short": the room is shorter than the listing. Else the listing's length is the answer.
-unfoldable pub played : ℕ → List ℕ → Played
-played room text = pick (ltb room (length text)) Short (Listed (length text))
+unfoldable pub played : ℕ → List ℕ → Option ℕ
+played room text = pick (ltb room (length text)) None (Some (length text))
 
-unfoldable pub number : Played → ℕ
-number (Listed n) = 0
-number Short = 13
+unfoldable pub number : Option ℕ → ℕ
+number (Some n) = 0
+number None = 13
 
 -- The lent room afterwards: "Lent room past an answer keeps its bytes." Where it is too short, it is as it was.
 unfoldable pub played_room : List ℕ → List ℕ → List ℕ

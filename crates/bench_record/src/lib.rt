@@ -3,13 +3,6 @@
 
 ghost use Rattle.bench_record.specs.Claims.{FirstLines, LinesStand, BadLines};
 
-// The listing's length, or 13: the room is too short for it.
-#[derive(Clone, Copy)]
-pub enum Played {
-    Listed(usize),
-    Short,
-}
-
 // Claim: the lines of the first events are the same whatever follows their bytes, and the lines before a `bad` whatever follows its place.
 pub fn first_lines()
     ensures first { FirstLines }

@@ -15,7 +15,7 @@ use rules::{Hearing, Reception};
 fn most_nibbles(longest: u8) -> u16
     ensures { result ≡ longest_rule.most_nibbles longest }
 {
-    7 + 2 * (longest as u16)
+    7 + 2 * u16::from(longest)
 }
 
 // Whether an odd number of whole nibbles, from 7 to the most, stands before the last three bits.
@@ -23,10 +23,7 @@ fn most_nibbles(longest: u8) -> u16
 fn whole(nibbles: u8, longest: u8) -> bool
     ensures { result ≡ rule.whole nibbles longest }
 {
-    if nibbles % 2 == 1 {
-        return (7 <= nibbles) & (nibbles as u16 <= most_nibbles(longest));
-    }
-    false
+    nibbles % 2 == 1 && 7 <= nibbles && u16::from(nibbles) <= most_nibbles(longest)
 }
 
 // Whether the command is a reply request: EXT 1, R/W 1, RTR 1.
@@ -34,18 +31,15 @@ fn whole(nibbles: u8, longest: u8) -> bool
 fn reply_request(low: u8) -> bool
     ensures { result ≡ rule.reply_request low }
 {
-    if channels::extension(low) {
-        return (channels::reads(low)) & (channels::remote(low));
-    }
-    false
+    channels::extension(low) && channels::reads(low) && channels::remote(low)
 }
 
 // ---- the check
 
 // A byte of the frame; behind the last one, 0.
 #[tactic(auto, using(std::proofs::lemmas::Bool::Decides::nat_tests))]
-fn byte_at(bytes: [u8; line::CODED_BYTES], i: usize) -> u8
-    ensures { result ≡ get_or bytes i 0 }
+fn byte_at(bytes: &[u8; line::CODED_BYTES], i: usize) -> u8
+    ensures { result ≡ get_or bytes.now i 0 }
 {
     if i < line::CODED_BYTES {
         return bytes[i];
@@ -58,56 +52,54 @@ fn byte_at(bytes: [u8; line::CODED_BYTES], i: usize) -> u8
 fn fifteen(high: u8, low: u8, last: u8) -> u16
     ensures { result ≡ high * 128 + low / 16 * 8 + last % 8 }
 {
-    (high as u16) * 128 + ((low / 16) as u16) * 8 + ((last % 8) as u16)
+    u16::from(high) * 128 + u16::from(low / 16) * 8 + u16::from(last % 8)
 }
 
 // The check received: twelve bits behind the n data bytes, and the last three, which are plain.
 #[tactic(auto, using(std::proofs::lemmas::Bool::Decides::nat_tests), unfolding(rules::specs::Definitions::Hearing::check_received))]
-fn check_received(bytes: [u8; line::CODED_BYTES], n: u8, last: u8) -> u16
-    ensures { result ≡ rule.check_received bytes n last }
+fn check_received(bytes: &[u8; line::CODED_BYTES], n: u8, last: u8) -> u16
+    ensures { result ≡ rule.check_received bytes.now n last }
 {
-    let high = byte_at(bytes, n as usize + 2);
-    let low = byte_at(bytes, n as usize + 3);
+    let high = byte_at(bytes, usize::from(n) + 2);
+    let low = byte_at(bytes, usize::from(n) + 3);
     fifteen(high, low, last)
 }
 
 // The check of identifier, command and n data bytes. A frame's bytes hold at most DATA_AND_CHECK behind its command.
 #[tactic(auto, using(std::proofs::lemmas::Bool::Decides::nat_tests), unfolding(rules::specs::Definitions::Hearing::check_due))]
-fn check_due(bytes: [u8; line::CODED_BYTES], n: u8) -> u16
-    ensures { result ≡ rule.check_due bytes n }
+fn check_due(bytes: &[u8; line::CODED_BYTES], n: u8) -> u16
+    ensures { result ≡ rule.check_due bytes.now n }
 {
     if n < line::DATA_AND_CHECK {
-        let end = n as usize + 2;
+        let end = usize::from(n) + 2;
         return frame_check::check_of(&bytes[..end]);
     }
-    frame_check::check_of(&bytes)
+    frame_check::check_of(bytes)
 }
 
 // ---- the judgement
 
 // The pair 00: the length, then data in a reply request (house), then the check.
 #[tactic(auto, using(std::proofs::lemmas::Bool::Decides::nat_tests), unfolding(rules::specs::Definitions::Hearing::hear_end_of_data))]
-fn hear_end_of_data(r: Reception, longest: u8) -> Hearing
-    ensures { result ≡ rule.hear_end_of_data r longest }
+#[cold]
+#[inline(never)]
+fn hear_end_of_data(r: &Reception, longest: u8) -> Hearing
+    ensures { result ≡ rule.hear_end_of_data r.now longest }
 {
-    let b = r.bytes;
     let n = reception::data_count(r.nibbles);
-    if whole(r.nibbles, longest) {
-        if (reply_request(b[1])) & (0 < n) {
-            return Hearing::Fault(Code::CV);
-        }
-        if check_received(b, n, r.bits / 2) == check_due(b, n) {
-            return Hearing::Follows;
-        }
-        return Hearing::Fault(Code::FCSE);
+    if !whole(r.nibbles, longest) || (reply_request(r.bytes[1]) && 0 < n) {
+        return Hearing::Fault(Code::CV);
     }
-    Hearing::Fault(Code::CV)
+    if check_received(&r.bytes, n, r.bits / 2) == check_due(&r.bytes, n) {
+        return Hearing::Follows;
+    }
+    Hearing::Fault(Code::FCSE)
 }
 
 // A second half: unlike the first it closes a nibble, one past the most is a length fault; 11 is a violation, 00 ends the data.
 #[tactic(auto, using(std::proofs::lemmas::Bool::Decides::nat_tests), unfolding(rules::specs::Definitions::Hearing::hear_second_half))]
-fn hear_second_half(r: Reception, longest: u8, v: u8) -> Hearing
-    ensures { result ≡ rule.hear_second_half r longest v }
+fn hear_second_half(r: &Reception, longest: u8, v: u8) -> Hearing
+    ensures { result ≡ rule.hear_second_half r.now longest v }
 {
     if v == r.bits % 2 {
         if v == 0 {
@@ -115,7 +107,7 @@ fn hear_second_half(r: Reception, longest: u8, v: u8) -> Hearing
         }
         return Hearing::Fault(Code::CV);
     }
-    if (r.nibbles as u16) < most_nibbles(longest) {
+    if u16::from(r.nibbles) < most_nibbles(longest) {
         return Hearing::Follows;
     }
     Hearing::Fault(Code::CV)
@@ -123,11 +115,10 @@ fn hear_second_half(r: Reception, longest: u8, v: u8) -> Hearing
 
 // Plain bits and first halves are never a fault.
 #[tactic(auto, using(std::proofs::lemmas::Bool::Decides::nat_tests), unfolding(rules::specs::Definitions::Hearing::hear_body))]
-pub fn hear_body(r: Reception, longest: u8, v: u8) -> Hearing
-    ensures { result ≡ rule.hear_body r longest v }
+pub fn hear_body(r: &Reception, longest: u8, v: u8) -> Hearing
+    ensures { result ≡ rule.hear_body r.now longest v }
 {
-    let p = r.place;
-    if p.at < 4 {
+    if r.place.at < 4 {
         return Hearing::Follows;
     }
     hear_second_half(r, longest, v)

@@ -152,7 +152,7 @@ fn own_buffer(x: Channel) -> Buffer
     Buffer {
         legal: true,
         pointer: x.pointer % 128,
-        length: length,
+        length,
     }
 }
 
@@ -161,10 +161,7 @@ fn own_buffer(x: Channel) -> Buffer
 fn linked_buffer(m: &[u8; 256], c: u8, link: u8) -> Buffer
     ensures { result ≡ rule.linked_buffer m.now c link }
 {
-    if CHANNELS <= link {
-        return no_buffer();
-    }
-    if link == c {
+    if CHANNELS <= link || link == c {
         return no_buffer();
     }
     own_buffer(channel_at(m, link))

@@ -23,7 +23,7 @@ fn compare<W: Write>(out: &mut W, bytes: &[u8]) -> io::Result<()> {
     say(out, frame_check::check_of(bytes))
 }
 
-// A line with a number, of five digits.
+// A line with a number, of five digits. By hand: bench/run takes off what a line costs, so a line is one write and costs the same for every number.
 fn say<W: Write>(out: &mut W, number: u16) -> io::Result<()> {
     let digits = [
         48 + (number / 10000) as u8,
@@ -74,10 +74,8 @@ fn bit_by_bit(bytes: &[u8]) -> u16
     ensures { result ≡ check.check (frame.byte_bits bytes.now) }
 {
     let mut r = frame_check::ALL_ONES;
-    let mut i = 0;
-    while i < bytes.len() {
-        r = byte_by_bits(r, bytes[i]);
-        i += 1;
+    for byte in bytes {
+        r = byte_by_bits(r, *byte);
     }
     frame_check::ALL_ONES - r
 }

@@ -10,6 +10,7 @@ use borrow.Author.Tests.{le-leb, lt-leb, leb-true, leb-false, eqb-true, eqb-fals
 use lib.Dec.{eqb, leb}
 use lib.ListN.{length, get_or, set, replicate, length-set, length-append, get_or-append}
 use lib.Seq.{get_or-append-add, get_or-set_same, get_or-set_other}
+use Rattle.std.specs.Prelude.{Option, None, Some}
 use Rattle.line.specs.Bits.{pick}
 use Rattle.line.specs.Check.{check}
 use Rattle.line.specs.Frame.{Frame, Fits, covered}
@@ -31,8 +32,6 @@ use Rattle.every_run.specs.Receiving.{stored_bytes, stored_frame, received}
 use Rattle.claims.specs.Claims.{buffer_channel, Held}
 use Rattle.rules.specs.declared.Channel.{Channel}
 use Rattle.rules.specs.declared.Buffer.{Buffer}
-use Rattle.rules.specs.declared.Choice.{Choice}
-use Rattle.rules.specs.declared.Choice.TheVariants.{Nothing, Lowest}
 use Rattle.rules.specs.declared.Winner.{Winner}
 use Rattle.rules.specs.declared.Reception.{Reception}
 use Rattle.rules.specs.declared.Delivery.{Delivery}
@@ -47,13 +46,13 @@ use Rattle.rules.specs.declared.Event.{Event}
 
 -- ---- who takes it
 
-none_found : (passes : ℕ → Bool) (left from : ℕ) → lowest passes left from ≡ Nothing → (k : ℕ) → from ≤ k → k < from + left → passes k ≡ false
+none_found : (passes : ℕ → Bool) (left from : ℕ) → lowest passes left from ≡ None → (k : ℕ) → from ≤ k → k < from + left → passes k ≡ false
 unfolding lowest
 none_found passes zero from e k a b = absurd (omega arith)
 none_found passes (suc left) from e k a b = go (passes from) refl e (none_found passes left (from + 1)) (eqb k from) refl
   where
-    go : (p : Bool) → passes from ≡ p → pick p (Lowest from) (lowest passes left (from + 1)) ≡ Nothing
-        → (lowest passes left (from + 1) ≡ Nothing → (j : ℕ) → from + 1 ≤ j → j < from + 1 + left → passes j ≡ false)
+    go : (p : Bool) → passes from ≡ p → pick p (Some from) (lowest passes left (from + 1)) ≡ None
+        → (lowest passes left (from + 1) ≡ None → (j : ℕ) → from + 1 ≤ j → j < from + 1 + left → passes j ≡ false)
         → (q : Bool) → eqb k from ≡ q → passes k ≡ false
     go true p h rest q z = absurd (let y : ◌≡◌ {A = ℕ} 0 1 = cc in omega arith)
     go false p h rest true z = let y : k ≡ from = eqb-true _ _ z in rw y p
@@ -65,18 +64,18 @@ module _ (m : List ℕ) (high low : ℕ) where
   unfolding winner_for lowest_listening
   winner_lowest = go (lowest (λ c. takes m c high low) 14 0) refl
     where
-      go : (x : Choice) → lowest (λ c. takes m c high low) 14 0 ≡ x → (won m x).matched ≡ true
+      go : (x : Option ℕ) → lowest (λ c. takes m c high low) 14 0 ≡ x → (won m x).matched ≡ true
           → (takes m (won m x).channel high low ≡ true) × ((k : ℕ) → k < (won m x).channel → takes m k high low ≡ false)
-      go Nothing e h = absurd (false≢true (unfold won nobody in h))
-      go (Lowest c) e h = unfold won winner_of in let f = found (λ c. takes m c high low) 14 0 c e in (f.0, λ k i. f.1 k (omega arith) i)
+      go None e h = absurd (false≢true (unfold won nobody in h))
+      go (Some c) e h = unfold won winner_of in let f = found (λ c. takes m c high low) 14 0 c e in (f.0, λ k i. f.1 k (omega arith) i)
 
   pub winner_none : (winner_for m high low).matched ≡ false → (k : ℕ) → k < 14 → takes m k high low ≡ false
   unfolding winner_for lowest_listening
   winner_none = go (lowest (λ c. takes m c high low) 14 0) refl
     where
-      go : (x : Choice) → lowest (λ c. takes m c high low) 14 0 ≡ x → (won m x).matched ≡ false → (k : ℕ) → k < 14 → takes m k high low ≡ false
-      go Nothing e h k i = none_found (λ c. takes m c high low) 14 0 e k (omega arith) (omega arith)
-      go (Lowest c) e h k i = absurd (false≢true (sym (unfold won winner_of in h)))
+      go : (x : Option ℕ) → lowest (λ c. takes m c high low) 14 0 ≡ x → (won m x).matched ≡ false → (k : ℕ) → k < 14 → takes m k high low ≡ false
+      go None e h k i = none_found (λ c. takes m c high low) 14 0 e k (omega arith) (omega arith)
+      go (Some c) e h k i = absurd (false≢true (sym (unfold won winner_of in h)))
 
 -- ---- what it holds
 
@@ -146,9 +145,9 @@ module _ (m : List ℕ) (high low : ℕ) where
   unfolding winner_for lowest_listening
   winner_held = go (lowest (λ c. takes m c high low) 14 0) refl
     where
-      go : (x : Choice) → lowest (λ c. takes m c high low) 14 0 ≡ x → (won m x).matched ≡ true → Held m (won m x)
-      go Nothing e h = absurd (false≢true (unfold won nobody in h))
-      go (Lowest c) e h = unfold won in winner_of_held m c (takes_legal c (found (λ c. takes m c high low) 14 0 c e).0)
+      go : (x : Option ℕ) → lowest (λ c. takes m c high low) 14 0 ≡ x → (won m x).matched ≡ true → Held m (won m x)
+      go None e h = absurd (false≢true (unfold won nobody in h))
+      go (Some c) e h = unfold won in winner_of_held m c (takes_legal c (found (λ c. takes m c high low) 14 0 c e).0)
 
 -- ---- bytes laid into the mailbox
 

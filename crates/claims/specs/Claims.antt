@@ -17,7 +17,7 @@
 --   get_or s k d       element k of s, from 0; d where s has none        ltb k n: k is below n        a - b: 0 where b is larger
 --   record R where     a claim whose fields are its parts: R holds if all of them do
 --   unfoldable, abbrev marks for proofs, which say where a definition may be replaced by its text; they do not change what it says
-use Rattle.std.specs.Prelude.{ℕ, ◌+◌, ◌-◌, ◌*◌, ◌/◌, ◌%◌, ◌≤◌, ◌<◌, true, false, List, [], ◌∷◌, ◌++◌, ◌↔◌, ◌≡◌, eqb, ltb, length, get_or, take}
+use Rattle.std.specs.Prelude.{ℕ, ◌+◌, ◌-◌, ◌*◌, ◌/◌, ◌%◌, ◌≤◌, ◌<◌, true, false, List, [], ◌∷◌, ◌++◌, ◌↔◌, ◌≡◌, Err, eqb, ltb, length, get_or, take}
 use Rattle.line.specs.Bits.{pick, bits, Below}
 use Rattle.line.specs.LineCode.{line_code, pattern}
 use Rattle.line.specs.Check.{check}
@@ -27,8 +27,6 @@ use Rattle.line.specs.Claims.{Checked}
 use Rattle.codec.specs.Encode.{encoded_room}
 use Rattle.codec.specs.Decode.{Reading, frame, reading, decoded, decoded_room}
 use Rattle.codec.specs.declared.Refusal as codec_refusal
-use Rattle.codec.specs.declared.Encoded.TheVariants as encoding
-use Rattle.codec.specs.declared.Decoded.TheVariants as decoding
 use Rattle.rules.specs.Definitions.Longest.{capacity}
 use Rattle.rules.specs.Definitions.Registers.{has_bit, read_only, write_only, reserved, fixed_bits}
 use Rattle.rules.specs.Definitions.Channels.{base, buffer_of, matches, takes, winner_for}
@@ -56,12 +54,11 @@ use Rattle.rules.specs.declared.Event.TheVariants.{Reset, Write, Read, Slot}
 use Rattle.leb128.specs.Leb128.{Bytes, uleb128}
 use Rattle.leb128.specs.Leb128 as leb128
 use Rattle.leb128.specs.Claims.{Looked}
-use Rattle.session.specs.Reading.{most_events, Events, Counted, session}
+use Rattle.session.specs.Reading.{most_events, Events, Counted, session, bad}
 use Rattle.session.specs.Writing.{session_bytes, AllFit}
 use Rattle.session.specs.Claims.{Settled}
 use Rattle.session.specs.Claims as sessions
 use Rattle.session.specs.declared.Fault.{Fault}
-use Rattle.session.specs.declared.End.TheVariants.{Bad}
 use Rattle.session.specs.declared.Event as session_event
 use Rattle.bench_record.specs.Claims.{FirstLines, LinesStand, BadLines}
 use Rattle.claims.specs.Agree as agree
@@ -75,7 +72,7 @@ pub record Refusals : Type 0 where
   -- "Each returns its number and zero elsewhere"
   pub zero_elsewhere : (c : Controller) (e : Event) → ((step c e).refused ≡ 0 → ⊥) → (step c e).value ≡ 0
   -- "no state reached from a fresh one is refused" with 6
-  pub in_range_lem : (es : List Event) → in_range (after fresh es) ≡ true
+  pub always_in_range : (es : List Event) → in_range (after fresh es) ≡ true
   pub never_six : (es : List Event) (e : Event) → (step (after fresh es) e).refused ≡ 6 → ⊥
   -- "Pin reset: 6."
   pub of_reset : (c : Controller) → (step c Reset).refused ≡ pick (in_range c) 0 6
@@ -88,15 +85,15 @@ pub record Refusals : Type 0 where
   -- "Slots: 6, 5"
   pub of_slot : (c : Controller) (levels : ℕ) → (step c (Slot levels)).refused ≡ pick (in_range c) (pick (ltb 7 levels) 5 0) 6
   -- and the buffers lent to the codec
-  pub encode_room : (room : List ℕ) (f : Frame) (r : codec_refusal.Refusal) → encoded_room room f (encoding.Refused r) ≡ room
-  pub decode_room : (room : List ℕ) (x : Reading) (r : codec_refusal.Refusal) → decoded (length room) x ≡ decoding.Refused r → decoded_room room x ≡ room
+  pub encode_room : (room : List ℕ) (f : Frame) (r : codec_refusal.Refusal) → encoded_room room f (Err r) ≡ room
+  pub decode_room : (room : List ℕ) (x : Reading) (r : codec_refusal.Refusal) → decoded (length room) x ≡ Err r → decoded_room room x ≡ room
 
 pub record Sessions : Type 0 where
   -- "Any .. session file, however broken, gets an answer". A fault is at the number that is due behind the bytes read (crates/session/specs/Claims.antt: InHeader,
   -- InEvents), it is what is wrong there, and 02, Req 02: K is how many bytes of the number were looked at; for 33 to 35 how many it used, for 36 0 (Found)
   pub answered : (most : ℕ) (s : List ℕ) → Bytes s → sessions.Answered most s (session most s)
   -- "session events before a bad one stand": they are the same whatever stands from the fault's place on
-  pub stand : (most : ℕ) (s : List ℕ) → Bytes s → (c : ℕ) (r : Events) → session most s ≡ Counted c r → (f : Fault) (p k : ℕ) → r.end ≡ Bad f p k
+  pub stand : (most : ℕ) (s : List ℕ) → Bytes s → (c : ℕ) (r : Events) → session most s ≡ Counted c r → (f : Fault) (p k : ℕ) → r.end ≡ bad f p k
       → (t : List ℕ) → sessions.Begins c r.events (session most (take p s ++ t))
   -- so do their lines: each event that is read has its line, with the answer of the step rule, whatever follows (crates/bench_record/specs/Claims.antt)
   pub first_lines : FirstLines

@@ -345,9 +345,9 @@ pub silent : (sees (Write 0x02 0x01 ∷ ones 63) (0x04 ∷ []) ≡ 0x20 ∷ []) 
 unfolding last_answer ran sees reads listening heard_by ones levels asking wired
 silent = (refl, refl)
 
-pub by_hand_lem : sees (Write 0x03 0x01 ∷ []) (0x04 ∷ []) ≡ 0x2C ∷ []
+pub by_hand_major : sees (Write 0x03 0x01 ∷ []) (0x04 ∷ []) ≡ 0x2C ∷ []
 unfolding last_answer ran sees reads listening heard_by ones levels asking wired
-by_hand_lem = refl
+by_hand_major = refl
 
 pub nominal_again : sees (Write 0x03 0x01 ∷ Slot 0 ∷ Slot 7 ∷ Slot 0 ∷ Slot 7 ∷ Write 0x03 0x01 ∷ []) (0x04 ∷ []) ≡ 0x20 ∷ []
 unfolding last_answer ran sees reads listening heard_by ones levels asking wired
@@ -500,7 +500,7 @@ courses =
       cut_data_bar_stored = cut_data_bar_stored;
       returned = returned;
       silent = silent;
-      by_hand_lem = by_hand_lem;
+      by_hand_major = by_hand_major;
       nominal_again = nominal_again;
       reply_sent = reply_sent;
       one_place_to_spare = one_place_to_spare;

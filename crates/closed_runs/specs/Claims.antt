@@ -138,7 +138,7 @@ pub record MoreCourses : Type 0 where
   pub returned : (sees (heard_by [] [] ++ wired 4 (take 79 (slots asking))) (0x04 ∷ []) ≡ 0x19 ∷ []) × (sees (heard_by [] [] ++ wired 4 (slots asking)) (0x04 ∷ []) ≡ 0x00 ∷ []) × (sees (heard_by [] [] ++ (wired 4 (slots asking) ++ ones 1)) (0x04 ∷ []) ≡ 0x08 ∷ [])
   -- major error by silence, in the 64th slot; the pulse by hand, and with four edges the return to nominal
   pub silent : (sees (Write 0x02 0x01 ∷ ones 63) (0x04 ∷ []) ≡ 0x20 ∷ []) × (sees (Write 0x02 0x01 ∷ ones 64) (0x04 ∷ []) ≡ 0x2C ∷ [])
-  pub by_hand_lem : sees (Write 0x03 0x01 ∷ []) (0x04 ∷ []) ≡ 0x2C ∷ []
+  pub by_hand_major : sees (Write 0x03 0x01 ∷ []) (0x04 ∷ []) ≡ 0x2C ∷ []
   pub nominal_again : sees (Write 0x03 0x01 ∷ Slot 0 ∷ Slot 7 ∷ Slot 0 ∷ Slot 7 ∷ Write 0x03 0x01 ∷ []) (0x04 ∷ []) ≡ 0x20 ∷ []
   -- a loss in a first half is no error; after a loss in data the frame's next level, a dominant one, is not driven
   pub lost_in_a_first_half : sees (set_up ++ (ones 12 ++ overdriven_at sent 13)) (0x04 ∷ 0x05 ∷ 0x07 ∷ []) ≡ 0x03 ∷ 0x00 ∷ 0x00 ∷ []

@@ -4,7 +4,7 @@
 --   expected  == slots that must be as written, judged slot by slot
 --   plain_run, pair_at == three plain bits; a bit and its opposite. Each hands over to the other
 --   reading   == the whole sequence, with at most `longest` data bytes
-use Rattle.std.specs.Prelude.{ℕ, zero, suc, ◌+◌, ◌-◌, ◌*◌, ◌/◌, ◌%◌, Bool, true, false, List, [], ◌∷◌, ◌++◌, eqb, ltb, leb, length, take, drop}
+use Rattle.std.specs.Prelude.{ℕ, zero, suc, ◌+◌, ◌-◌, ◌*◌, ◌/◌, ◌%◌, Bool, true, false, List, [], ◌∷◌, ◌++◌, Result, Ok, Err, eqb, ltb, leb, length, take, drop}
 use Rattle.line.specs.Bits.{pick, bits_value}
 use Rattle.line.specs.Check.{check}
 use Rattle.line.specs.Frame.{Frame, start, end_of_frame}
@@ -12,8 +12,6 @@ use Rattle.codec.specs.Answer.{laid}
 use Rattle.codec.specs.declared.Refusal.{Refusal}
 use Rattle.codec.specs.declared.Refusal.TheVariants.{Level, Start, Pair, Length, Check, Acknowledge, EndOfFrame, CutShort, LeftOver, Room}
 use Rattle.codec.specs.declared.Head.{Head}
-use Rattle.codec.specs.declared.Decoded.{Decoded}
-use Rattle.codec.specs.declared.Decoded.TheVariants.{Accepted, Refused}
 
 pub data Read (A : Type 0) : Type 0 where
   read : A → List ℕ → Read A
@@ -119,9 +117,9 @@ head_of f =
     }
 
 -- "then 13 if the room lent for data is under n"
-unfoldable pub decoded : ℕ → Reading → Decoded
-decoded room (frame f) = pick (ltb room (length f.bytes)) (Refused Room) (Accepted (head_of f))
-decoded room (refused r) = Refused r
+unfoldable pub decoded : ℕ → Reading → Result Head Refusal
+decoded room (frame f) = pick (ltb room (length f.bytes)) (Err Room) (Ok (head_of f))
+decoded room (refused r) = Err r
 
 unfoldable pub decoded_room : List ℕ → Reading → List ℕ
 decoded_room room (frame f) = pick (ltb (length room) (length f.bytes)) room (laid f.bytes room)

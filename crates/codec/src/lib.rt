@@ -6,7 +6,7 @@ ghost use Rattle.codec.specs.Answer as answer;
 ghost use Rattle.codec.specs.Claims as claims;
 
 // Why a frame or a slot sequence is refused.
-#[derive(Clone, Copy)]
+#[derive(Clone, Copy, Debug, PartialEq, Eq)]
 pub enum Refusal {
     Level,
     Identifier,
@@ -23,15 +23,8 @@ pub enum Refusal {
     LeftOver,
 }
 
-// The number of slots written.
-#[derive(Clone, Copy)]
-pub enum Encoded {
-    Slots(usize),
-    Refused(Refusal),
-}
-
 // What a decoded frame holds beside its data bytes, and how many those are.
-#[derive(Clone, Copy)]
+#[derive(Clone, Copy, Debug, PartialEq, Eq)]
 pub struct Head {
     pub identifier: u16,
     pub command: u8,
@@ -39,31 +32,27 @@ pub struct Head {
     pub acknowledge: bool,
 }
 
-#[derive(Clone, Copy)]
-pub enum Decoded {
-    Accepted(Head),
-    Refused(Refusal),
-}
-
 // 01's number of a refusal.
-#[tactic(auto, using(std::proofs::lemmas::Bool::Decides::nat_tests), unfolding(crate::specs::Answer::number))]
-pub fn number(refusal: Refusal) -> u8
-    ensures { result ≡ answer.number refusal }
-{
-    match refusal {
-        Refusal::Level => 5,
-        Refusal::Identifier => 10,
-        Refusal::Command => 11,
-        Refusal::Bytes => 12,
-        Refusal::Room => 13,
-        Refusal::Start => 20,
-        Refusal::Pair => 21,
-        Refusal::Length => 22,
-        Refusal::Check => 23,
-        Refusal::Acknowledge => 24,
-        Refusal::EndOfFrame => 25,
-        Refusal::CutShort => 26,
-        Refusal::LeftOver => 27,
+impl From<Refusal> for u8 {
+    ghost from_gives = { λ why r. r ≡ answer.number why };
+
+    #[tactic(auto, using(std::proofs::lemmas::Bool::Decides::nat_tests), unfolding(crate::specs::Answer::number))]
+    fn from(refusal: Refusal) -> Self {
+        match refusal {
+            Refusal::Level => 5,
+            Refusal::Identifier => 10,
+            Refusal::Command => 11,
+            Refusal::Bytes => 12,
+            Refusal::Room => 13,
+            Refusal::Start => 20,
+            Refusal::Pair => 21,
+            Refusal::Length => 22,
+            Refusal::Check => 23,
+            Refusal::Acknowledge => 24,
+            Refusal::EndOfFrame => 25,
+            Refusal::CutShort => 26,
+            Refusal::LeftOver => 27,
+        }
     }
 }
 

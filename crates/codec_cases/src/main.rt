@@ -1,80 +1,24 @@
 // Runs every case of its input through the codec and writes the case with what the codec gives.
 #![tactic(auto)]
 
-ghost use Rattle.std.specs.Prelude.{◌≤◌, length};
+ghost use Rattle.std.specs.Prelude.{◌≤◌};
 
-use codec::{Decoded, Encoded, Head, Refusal};
+use codec::{Head, Refusal};
 use std::io;
 use std::io::{Read, Write};
 
-// The part of s from a to e, or nothing where that is no part of it.
-fn part(s: &[u8], a: usize, e: usize) -> &[u8] {
-    if a <= e {
-        if e <= s.len() {
-            return &s[a..e];
-        }
-    }
-    &s[0..0]
-}
-
-// The first place from `at` on that holds the byte, or the end.
-#[tactic(auto, using(std::proofs::lemmas::Bool::Decides::nat_tests))]
-fn find(s: &[u8], at: usize, byte: u8) -> usize
-    ensures { result ≤ length s.now }
-{
-    let mut i = at;
-    while i < s.len() {
-        if s[i] == byte {
-            return i;
-        }
-        i += 1;
-    }
-    s.len()
-}
-
-// The first n places, or all where there are fewer.
-#[tactic(auto, using(std::proofs::lemmas::Bool::Decides::nat_tests))]
-fn front(s: &mut [u8], n: usize) -> &mut [u8] {
-    if n <= s.len() {
-        return &mut s[..n];
-    }
-    s
-}
-
-// The place behind the word at `at` and its blank.
-fn behind(s: &[u8], at: usize) -> usize {
-    let e = find(s, at, b' ');
-    if e < s.len() {
-        return e + 1;
-    }
-    e
-}
-
 // Word k of a line, from 0 on; nothing where there are fewer.
-#[tactic(auto, using(std::proofs::lemmas::Bool::Decides::nat_tests))]
-fn word(s: &[u8], k: u8) -> &[u8] {
-    let mut at = 0;
-    let mut n = 0u8;
-    while n < k {
-        at = behind(s, at);
-        n += 1;
-    }
-    part(s, at, find(s, at, b' '))
+fn word(s: &[u8], k: usize) -> &[u8] {
+    s.split(|byte| *byte == b' ').nth(k).unwrap_or(&[])
 }
 
-#[tactic(auto, using(std::proofs::lemmas::Bool::Decides::nat_tests))]
 fn decimal(s: &[u8]) -> u32 {
-    let mut x: u32 = 0;
-    let mut i = 0;
-    while i < s.len() {
-        x = (x % 100000) * 10 + (s[i] % 16) as u32;
-        i += 1;
-    }
-    x
+    s.iter()
+        .fold(0u32, |x, digit| (x % 100000) * 10 + (*digit % 16) as u32)
 }
 
 // The value of word k.
-fn value_of(s: &[u8], k: u8) -> u32 {
+fn value_of(s: &[u8], k: usize) -> u32 {
     decimal(word(s, k))
 }
 
@@ -85,64 +29,50 @@ fn digit(b: u8) -> u8 {
     b % 16 + 9
 }
 
-fn letter(x: u8) -> u8 {
-    if x % 16 < 10 {
-        return 48 + x % 16;
-    }
-    55 + x % 16
+// The first n places, or all where there are fewer.
+fn front(s: &mut [u8], n: usize) -> &mut [u8] {
+    let n = n.min(s.len());
+    &mut s[..n]
 }
 
-// Two hexadecimal digits a byte. Answers how many bytes; `-` is none.
-#[tactic(auto, using(std::proofs::lemmas::Bool::Decides::nat_tests))]
-fn read_bytes(s: &[u8], out: &mut [u8]) -> usize {
-    let mut k = 0;
-    while k < out.len() {
-        if s.len() / 2 <= k {
-            return k;
-        }
+// Two hexadecimal digits a byte, as many as there is room for; `-` is none.
+fn read_bytes<'a>(s: &[u8], out: &'a mut [u8]) -> &'a [u8] {
+    let n = out.len().min(s.len() / 2);
+    for k in 0..n {
         out[k] = digit(s[2 * k]) % 16 * 16 + digit(s[2 * k + 1]) % 16;
-        k += 1;
     }
-    k
+    &out[..n]
 }
 
-// One digit a slot. Answers how many slots; `-` is none.
-#[tactic(auto, using(std::proofs::lemmas::Bool::Decides::nat_tests))]
-fn read_slots(s: &[u8], out: &mut [u8]) -> usize {
-    let mut k = 0;
-    while k < out.len() {
-        if s.len() <= k {
-            return k;
-        }
-        if s[k] == b'-' {
-            return k;
-        }
+// One digit a slot, as many as there is room for; `-` is none.
+fn read_slots<'a>(s: &[u8], out: &'a mut [u8]) -> &'a [u8] {
+    let end = s.iter().position(|byte| *byte == b'-').unwrap_or(s.len());
+    let n = end.min(s.len()).min(out.len());
+    for k in 0..n {
         out[k] = s[k] % 16;
-        k += 1;
     }
-    k
+    &out[..n]
 }
 
-fn say_refused<W: Write>(out: &mut W, r: Refusal) -> io::Result<()> {
-    let number = codec::number(r);
+fn say_refused<W: Write>(out: &mut W, why: Refusal) -> io::Result<()> {
+    let number = u8::from(why);
     write!(out, "refused {number}")
 }
 
-#[tactic(auto, using(std::proofs::lemmas::Bool::Decides::nat_tests))]
 fn say_slots<W: Write>(out: &mut W, s: &[u8]) -> io::Result<()> {
     for slot in s {
-        out.write_all(&[48 + *slot % 10])?;
+        let level = *slot % 10;
+        write!(out, "{level}")?;
     }
     Ok(())
 }
 
-#[tactic(auto, using(std::proofs::lemmas::Bool::Decides::nat_tests))]
 fn say_bytes<W: Write>(out: &mut W, s: &[u8]) -> io::Result<()> {
-    if s.len() == 0 {
-        return out.write_all(b"-");
+    if s.is_empty() {
+        return write!(out, "-");
     }
     for byte in s {
-        out.write_all(&[letter(*byte / 16), letter(*byte)])?;
+        write!(out, "{byte:02X}")?;
     }
     Ok(())
 }
@@ -151,14 +81,14 @@ fn say_bytes<W: Write>(out: &mut W, s: &[u8]) -> io::Result<()> {
 fn encode_case<W: Write>(out: &mut W, s: &[u8]) -> io::Result<()> {
     let mut data = [0u8; 80];
     let mut slots = [0u8; 512];
-    let n = read_bytes(word(s, 3), &mut data);
-    match encode_words(s, part(&data, 0, n), &mut slots) {
-        Encoded::Refused(r) => say_refused(out, r),
-        Encoded::Slots(k) => say_slots(out, part(&slots, 0, k)),
+    let bytes = read_bytes(word(s, 3), &mut data);
+    match encode_words(s, bytes, &mut slots) {
+        Err(why) => say_refused(out, why),
+        Ok(n) => say_slots(out, slots.get(..n).unwrap_or(&[])),
     }
 }
 
-fn encode_words(s: &[u8], bytes: &[u8], slots: &mut [u8]) -> Encoded {
+fn encode_words(s: &[u8], bytes: &[u8], slots: &mut [u8]) -> Result<usize, Refusal> {
     let acknowledge = value_of(s, 4) == 1;
     let room = value_of(s, 5) as usize;
     encoder::encode(
@@ -170,123 +100,92 @@ fn encode_words(s: &[u8], bytes: &[u8], slots: &mut [u8]) -> Encoded {
     )
 }
 
-fn say_flag<W: Write>(out: &mut W, b: bool) -> io::Result<()> {
-    if b {
-        return out.write_all(b" 1");
-    }
-    out.write_all(b" 0")
-}
-
 // decode SLOTS ROOM
 fn decode_case<W: Write>(out: &mut W, s: &[u8]) -> io::Result<()> {
-    let mut slots = [0u8; 512];
+    let mut room = [0u8; 512];
     let mut data = [0u8; 80];
-    let n = read_slots(word(s, 1), &mut slots);
-    let room = value_of(s, 2) as usize;
-    match decoder::decode(part(&slots, 0, n), front(&mut data, room)) {
-        Decoded::Refused(r) => say_refused(out, r),
-        Decoded::Accepted(h) => say_frame(out, h, &data),
+    let slots = read_slots(word(s, 1), &mut room);
+    let most = value_of(s, 2) as usize;
+    match decoder::decode(slots, front(&mut data, most)) {
+        Err(why) => say_refused(out, why),
+        Ok(head) => say_frame(out, head, &data),
     }
 }
 
-fn say_frame<W: Write>(out: &mut W, h: Head, data: &[u8]) -> io::Result<()> {
-    let identifier = h.identifier;
-    let command = h.command;
+fn say_frame<W: Write>(out: &mut W, head: Head, data: &[u8]) -> io::Result<()> {
+    let identifier = head.identifier;
+    let command = head.command;
+    let acknowledge = head.acknowledge as u8;
     write!(out, "{identifier} {command} ")?;
-    say_bytes(out, part(data, 0, h.count as usize))?;
-    say_flag(out, h.acknowledge)
+    say_bytes(out, data.get(..head.count as usize).unwrap_or(&[]))?;
+    write!(out, " {acknowledge}")
 }
 
 // captured IDENTIFIER COMMAND DATA: the check that stands in the encoded frame, followed by a zero bit
 fn captured_case<W: Write>(out: &mut W, s: &[u8]) -> io::Result<()> {
     let mut data = [0u8; 80];
     let mut slots = [0u8; 512];
-    let n = read_bytes(word(s, 3), &mut data) % 31;
+    let bytes = read_bytes(word(s, 3), &mut data);
+    let n = bytes.len() % 31;
     let _ = encoder::encode(
         value_of(s, 1),
         value_of(s, 2),
-        part(&data, 0, n),
+        &bytes[..n],
         true,
         &mut slots,
     );
-    say_check(out, &slots, 30 + 10 * n)
-}
-
-// The two bytes whose line code begins at `at`.
-fn say_check<W: Write>(out: &mut W, slots: &[u8], at: usize) -> io::Result<()> {
-    if at < slots.len() {
-        say_bytes(out, &[byte_at(slots, at), byte_at(slots, at + 10)])?;
-    }
-    Ok(())
+    let at = 30 + 10 * n;
+    say_bytes(out, &[byte_at(&slots, at), byte_at(&slots, at + 10)])
 }
 
 // The number that four slots write.
-fn nibble(s: &[u8], at: usize) -> u8 {
-    if at < s.len() {
-        if 4 <= s.len() - at {
-            return s[at] % 2 * 8 + s[at + 1] % 2 * 4 + s[at + 2] % 2 * 2 + s[at + 3] % 2;
-        }
-    }
-    0
+fn nibble(s: &[u8; 512], at: usize) -> u8
+    requires { at ≤ 500 }
+{
+    s[at] % 2 * 8 + s[at + 1] % 2 * 4 + s[at + 2] % 2 * 2 + s[at + 3] % 2
 }
 
 // The byte that two nibbles from `at` on write.
-fn byte_at(s: &[u8], at: usize) -> u8 {
-    if at < s.len() {
-        return nibble(s, at) % 16 * 16 + nibble(s, at + 5) % 16;
-    }
-    0
+fn byte_at(s: &[u8; 512], at: usize) -> u8
+    requires { at ≤ 490 }
+{
+    nibble(s, at) % 16 * 16 + nibble(s, at + 5) % 16
 }
 
 // bytes DATA: the check of the bytes alone
 fn bytes_case<W: Write>(out: &mut W, s: &[u8]) -> io::Result<()> {
     let mut data = [0u8; 80];
-    let n = read_bytes(word(s, 1), &mut data);
-    let check = frame_check::check_of(part(&data, 0, n));
-    say_bytes(out, &[(check / 256) as u8, (check % 256) as u8])
+    let check = frame_check::check_of(read_bytes(word(s, 1), &mut data));
+    write!(out, "{check:04X}")
 }
 
 // A line of the input, without its line feed: a case, or a remark that is written as it stands.
 fn case<W: Write>(out: &mut W, s: &[u8]) -> io::Result<()> {
-    let e = find(s, 0, b'=');
-    if s.len() <= e {
+    let mut parts = s.split(|byte| *byte == b'=');
+    let front = parts.next().unwrap_or(s);
+    if front.len() == s.len() || s.starts_with(b"#") {
         return out.write_all(s);
     }
-    let kind = s[0];
-    if kind == b'#' {
-        return out.write_all(s);
-    }
-    out.write_all(part(s, 0, e))?;
-    out.write_all(b"= ")?;
-    answer(out, s, kind)
+    out.write_all(front)?;
+    write!(out, "= ")?;
+    answer(out, s)
 }
 
 // What the codec gives, by the first letter of the case.
-fn answer<W: Write>(out: &mut W, s: &[u8], kind: u8) -> io::Result<()> {
-    if kind == b'e' {
-        return encode_case(out, s);
+fn answer<W: Write>(out: &mut W, s: &[u8]) -> io::Result<()> {
+    match s.first() {
+        Some(b'e') => encode_case(out, s),
+        Some(b'd') => decode_case(out, s),
+        Some(b'c') => captured_case(out, s),
+        _ => bytes_case(out, s),
     }
-    if kind == b'd' {
-        return decode_case(out, s);
-    }
-    if kind == b'c' {
-        return captured_case(out, s);
-    }
-    bytes_case(out, s)
 }
 
 // Every line.
-#[tactic(auto, using(std::proofs::lemmas::Bool::Decides::nat_tests))]
 fn run<W: Write>(out: &mut W, s: &[u8]) -> io::Result<()> {
-    let mut at = 0;
-    while at < s.len() {
-        let e = find(s, at, 10);
-        case(out, part(s, at, e))?;
+    for line in s.split_inclusive(|byte| *byte == b'\n') {
+        case(out, line.strip_suffix(b"\n").unwrap_or(line))?;
         out.write_all(b"\n")?;
-        if e < at {
-            return Ok(());
-        }
-        at = e + 1;
     }
     Ok(())
 }
@@ -294,5 +193,5 @@ fn run<W: Write>(out: &mut W, s: &[u8]) -> io::Result<()> {
 fn main(rt: HostRuntime) -> io::Result<()> {
     let mut text = [0u8; 131072];
     let n = io::copy(&mut rt.reader().take(131072), &mut &mut text[..])?;
-    run(&mut io::writer(&rt), part(&text, 0, n as usize))
+    run(&mut io::writer(&rt), &text[..n.min(131072) as usize])
 }

@@ -20,11 +20,7 @@ use rules::{Activity, Core, Mode, Service};
 fn resets(address: usize, v: u8) -> bool
     ensures { result ≡ rule.resets address v }
 {
-    if address == Map::COMMAND {
-        let asked = Map::asked(v);
-        return asked.reset;
-    }
-    false
+    address == Map::COMMAND && Map::asked(v).reset
 }
 
 // SLEEP: it acts unless GRES does.
@@ -32,100 +28,78 @@ fn resets(address: usize, v: u8) -> bool
 fn sleeps(address: usize, v: u8) -> bool
     ensures { result ≡ rule.sleeps address v }
 {
-    if address == Map::COMMAND {
-        let asked = Map::asked(v);
-        return asked.sleep;
-    }
-    false
+    address == Map::COMMAND && Map::asked(v).sleep
 }
 
 // SLEEP acts at once: service and frame go, registers and flags stay.
 #[tactic(auto, using(std::proofs::lemmas::Bool::Decides::nat_tests), unfolding(rules::specs::Definitions::State::slept, rules::specs::Definitions::State::in_mode))]
-fn slept(k: Core) -> Core
-    ensures { result ≡ core.slept k }
+fn sleep(k: &mut Core)
+    ensures { k.new ≡ core.slept k.old }
 {
-    let mut t = k;
-    let activity = Activity {
+    k.activity = Activity {
         mode: Mode::Asleep,
         waiting: false,
     };
-    t.activity = activity;
-    t.reception = reception::quiet();
-    t.service = ending::resting();
-    t.reply = state::no_reply();
-    t
+    k.reception = reception::quiet();
+    k.service = ending::resting();
+    k.reply = state::no_reply();
 }
 
 // IDLE waits for the end of the service; whether it is due is asked afterwards.
 #[tactic(auto, using(std::proofs::lemmas::Bool::Decides::nat_tests), unfolding(rules::specs::Definitions::State::idle_asked, rules::specs::Definitions::State::in_mode))]
-fn idle_asked(k: Core) -> Core
-    ensures { result ≡ core.idle_asked k }
+fn ask_idle(k: &mut Core)
+    ensures { k.new ≡ core.idle_asked k.old }
 {
     if modes::is_active(k.activity) {
-        let mut t = k;
-        let activity = Activity {
+        k.activity = Activity {
             mode: Mode::Active,
             waiting: true,
         };
-        t.activity = activity;
-        return t;
     }
-    k
 }
 
 // ACTI in active mode only cancels a waiting idle; else twelve recessive slots are wanted.
 #[tactic(auto, using(std::proofs::lemmas::Bool::Decides::nat_tests), unfolding(rules::specs::Definitions::State::activated, rules::specs::Definitions::State::in_mode))]
-fn activated(k: Core) -> Core
-    ensures { result ≡ core.activated k }
+fn activate(k: &mut Core)
+    ensures { k.new ≡ core.activated k.old }
 {
-    let mut t = k;
-    let activity = Activity {
+    if !modes::is_active(k.activity) {
+        k.line = free_line::unsettled();
+    }
+    k.activity = Activity {
         mode: Mode::Active,
         waiting: false,
     };
-    t.activity = activity;
-    if modes::is_active(k.activity) {
-        return t;
-    }
-    t.line = free_line::unsettled();
-    t
 }
 
 // Only the first one set acts.
 #[tactic(auto, using(std::proofs::lemmas::Bool::Decides::nat_tests), unfolding(rules::specs::Definitions::Host::mode_commanded, registers::specs::Command::asked))]
-fn mode_commanded(k: Core, v: u8) -> Core
-    ensures { result ≡ rule.mode_commanded k v }
+fn command_mode(k: &mut Core, v: u8)
+    ensures { k.new ≡ rule.mode_commanded k.old v }
 {
     let asked = Map::asked(v);
     if asked.idle {
-        return idle_asked(k);
+        ask_idle(k);
+    } else if asked.activation {
+        activate(k);
     }
-    if asked.activation {
-        return activated(k);
-    }
-    k
 }
 
 // REAR without a service is not remembered.
 #[tactic(auto, using(std::proofs::lemmas::Bool::Decides::nat_tests), unfolding(rules::specs::Definitions::Service::rear_asked))]
-fn rear_asked(s: Service) -> Service
-    ensures { result ≡ service.rear_asked s }
+fn ask_rear(s: &mut Service)
+    ensures { s.new ≡ service.rear_asked s.old }
 {
-    let e = s.effort;
-    let mut t = s;
-    t.rear = stage::in_service(e.progress);
-    t
+    s.rear = stage::in_service(s.effort.progress);
 }
 
 #[tactic(auto, using(std::proofs::lemmas::Bool::Decides::nat_tests), unfolding(rules::specs::Definitions::Host::rear_commanded, registers::specs::Command::asked))]
-fn rear_commanded(s: Service, v: u8) -> Service
-    ensures { result ≡ rule.rear_commanded s v }
+fn command_rear(s: &mut Service, v: u8)
+    ensures { s.new ≡ rule.rear_commanded s.old v }
 {
-    let asked = Map::asked(v);
-    if asked.rearbitration {
-        return rear_asked(s);
+    if Map::asked(v).rearbitration {
+        ask_rear(s);
     }
-    s
 }
 
 // ---- an accepted write
@@ -135,145 +109,123 @@ fn rear_commanded(s: Service, v: u8) -> Service
 fn keep_byte(m: &mut [u8; 256], address: usize, v: u8)
     ensures { m.new ≡ rule.kept_byte m.old address v }
 {
-    if Map::write_only(address) {
-        return;
+    if !Map::write_only(address) {
+        m[address % 256] = v;
     }
-    m[address % 256] = v;
 }
 
 #[tactic(auto, using(std::proofs::lemmas::Bool::Decides::nat_tests), unfolding(rules::specs::Definitions::Host::flags_cleared))]
-fn flags_cleared(k: Core, v: u8) -> Core
-    ensures { result ≡ rule.flags_cleared k v }
+fn clear_flags(k: &mut Core, v: u8)
+    ensures { k.new ≡ rule.flags_cleared k.old v }
 {
-    let mut x = k.report;
-    x.flags = status::cleared(x.flags, v);
-    let mut t = k;
-    t.report = x;
-    t
+    status::clear(&mut k.report.flags, v);
 }
 
 #[tactic(auto, using(std::proofs::lemmas::Bool::Decides::nat_tests), unfolding(rules::specs::Definitions::Host::core_written))]
-fn core_written(k: Core, address: usize, v: u8) -> Core
-    ensures { result ≡ rule.core_written k address v }
+fn write_core(k: &mut Core, address: usize, v: u8)
+    ensures { k.new ≡ rule.core_written k.old address v }
 {
     if address == Map::COMMAND {
-        return mode_commanded(k, v);
+        command_mode(k, v);
+    } else if address == Map::INTERRUPT_RESET {
+        clear_flags(k, v);
     }
-    if address == Map::INTERRUPT_RESET {
-        return flags_cleared(k, v);
-    }
-    k
 }
 
 // An abort waits for the end of the attempt.
 #[tactic(auto, using(std::proofs::lemmas::Bool::Decides::nat_tests), unfolding(rules::specs::Definitions::Service::abort_asked))]
-fn abort_asked(s: Service) -> Service
-    ensures { result ≡ service.abort_asked s }
+fn ask_abort(s: &mut Service)
+    ensures { s.new ≡ service.abort_asked s.old }
 {
-    let mut t = s;
-    t.abort = true;
-    t
+    s.abort = true;
 }
 
 // Whether a host's write sets CHER of the channel in service.
 #[tactic(auto, using(std::proofs::lemmas::Bool::Decides::nat_tests), unfolding(rules::specs::Definitions::Service::aborts))]
-fn aborts(s: Service, address: usize, value: u8) -> bool
-    ensures { result ≡ service.aborts s address value }
+fn aborts(s: &Service, address: usize, value: u8) -> bool
+    ensures { result ≡ service.aborts s.now address value }
 {
-    let e = s.effort;
-    if stage::in_service(e.progress) {
-        if address == channels::base(s.channel) + Layout::LENGTH_STATUS {
-            return channels::cher(value);
-        }
-        return false;
-    }
-    false
+    stage::in_service(s.effort.progress)
+        && address == channels::base(s.channel) + Layout::LENGTH_STATUS
+        && channels::cher(value)
 }
 
 // What a write asks of the service: REAR, or an abort.
 #[tactic(auto, using(std::proofs::lemmas::Bool::Decides::nat_tests), unfolding(rules::specs::Definitions::Host::service_asked))]
-fn service_asked(s: Service, address: usize, v: u8) -> Service
-    ensures { result ≡ rule.service_asked s address v }
+fn ask_service(s: &mut Service, address: usize, v: u8)
+    ensures { s.new ≡ rule.service_asked s.old address v }
 {
     if address == Map::COMMAND {
-        return rear_commanded(s, v);
+        command_rear(s, v);
+    } else if aborts(s, address, v) {
+        ask_abort(s);
     }
-    if aborts(s, address, v) {
-        return abort_asked(s);
-    }
-    s
 }
 
 // A service asked to stop between attempts ends at once; a waiting idle is then due.
 #[tactic(auto, using(std::proofs::lemmas::Bool::Decides::nat_tests), unfolding(rules::specs::Definitions::Host::stopped_core))]
-fn stopped_core(k: Core, s: Service) -> Core
-    ensures { result ≡ rule.stopped_core k s }
+fn stop(k: &mut Core, s: &Service)
+    ensures { k.new ≡ rule.stopped_core k.old s.now }
 {
     let x = ending::stopped(s);
-    let report = reports::report_ended(x, k.report, s);
-    let service = ending::settled(x, s);
-    let mut t = k;
-    t.report = report;
-    t.service = service;
-    state::idle_due(t)
+    reports::report_ended(&mut k.report, x, s);
+    k.service = *s;
+    ending::settle(&mut k.service, x);
+    state::idle_if_due(k);
 }
 
 // A pulse by hand; other SDC bits in 0x02.
 #[tactic(auto, using(std::proofs::lemmas::Bool::Decides::nat_tests), unfolding(rules::specs::Definitions::Host::diagnosis_written, registers::specs::Command::asked))]
-fn diagnosis_written(m: &[u8; 256], x: Diagnosis, address: usize, v: u8) -> Diagnosis
-    ensures { result ≡ rule.diagnosis_written m.now x address v }
+fn write_diagnosis(m: &[u8; 256], x: &mut Diagnosis, address: usize, v: u8)
+    ensures { x.new ≡ rule.diagnosis_written m.now x.old address v }
 {
     let control = m[Map::DIAGNOSIS_CONTROL];
     if address == Map::COMMAND {
-        let asked = Map::asked(v);
-        if asked.pulse {
-            return diagnosing::pulsed(control, x);
+        if Map::asked(v).pulse {
+            diagnosing::pulse(x, control);
         }
-        return x;
+    } else if address == Map::DIAGNOSIS_CONTROL && Map::rate(control) != Map::rate(v) {
+        diagnosing::renew(x);
     }
-    if address == Map::DIAGNOSIS_CONTROL {
-        if Map::rate(control) == Map::rate(v) {
-            return x;
-        }
-        return diagnosing::renewed(x);
-    }
-    x
 }
 
+// Service and diagnosis are worked apart, each from the state before the write.
 #[tactic(auto, using(std::proofs::lemmas::Bool::Decides::nat_tests), unfolding(rules::specs::Definitions::Host::byte_written, rules::specs::Definitions::Host::kept_byte, rules::specs::Definitions::Service::memory_ended, rules::specs::Definitions::Mailbox::marked_chtx, rules::specs::Definitions::Mailbox::marked_cher))]
-fn byte_written(m: &mut [u8; 256], k: Core, address: usize, v: u8) -> Core
-    ensures { answers.controller m.new result ≡ rule.byte_written (answers.controller m.old k) address v }
+fn write_byte(m: &mut [u8; 256], k: &mut Core, address: usize, v: u8)
+    ensures { answers.controller m.new k.new ≡ rule.byte_written (answers.controller m.old k.old) address v }
 {
-    let s = service_asked(k.service, address, v);
-    let t = core_written(k, address, v);
-    let x = diagnosis_written(m, k.diagnosis, address, v);
+    let channel = k.service.channel;
+    let mut s = k.service;
+    let mut x = k.diagnosis;
+    ask_service(&mut s, address, v);
+    write_core(k, address, v);
+    write_diagnosis(m, &mut x, address, v);
     keep_byte(m, address, v);
-    ending::end_memory(m, ending::stopped(s), k.service.channel);
-    let mut stopped = stopped_core(t, s);
-    stopped.diagnosis = x;
-    stopped
+    ending::end_memory(m, ending::stopped(&s), channel);
+    stop(k, &s);
+    k.diagnosis = x;
 }
 
 // Reset, by pin or GRES.
 #[tactic(auto, using(std::proofs::lemmas::Bool::Decides::nat_tests))]
-pub fn reset(m: &mut [u8; 256]) -> Core
+pub fn reset(m: &mut [u8; 256], k: &mut Core)
     ensures map { m.new ≡ mailbox.reset_memory m.old }
-    ensures core { result ≡ core.reset_core }
+    ensures core { k.new ≡ core.reset_core }
 {
-    *m = Map::reset_memory(*m);
-    state::reset_core()
+    Map::reset_memory(m);
+    *k = state::reset_core();
 }
 
 // An accepted write: GRES, else SLEEP, else the byte and what it asks.
 #[tactic(auto, using(std::proofs::lemmas::Bool::Decides::nat_tests), unfolding(rules::specs::Definitions::Host::host_written, rules::specs::Definitions::Host::reset_all))]
-pub fn host_written(m: &mut [u8; 256], k: Core, address: usize, v: u8) -> Core
-    ensures { answers.controller m.new result ≡ rule.host_written (answers.controller m.old k) address v }
+pub fn host_written(m: &mut [u8; 256], k: &mut Core, address: usize, v: u8)
+    ensures { answers.controller m.new k.new ≡ rule.host_written (answers.controller m.old k.old) address v }
 {
     if resets(address, v) {
-        return reset(m);
+        reset(m, k);
+    } else if sleeps(address, v) {
+        sleep(k);
+    } else {
+        write_byte(m, k, address, v);
     }
-    if sleeps(address, v) {
-        return slept(k);
-    }
-    byte_written(m, k, address, v)
 }

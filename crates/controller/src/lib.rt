@@ -1,5 +1,4 @@
-// The controller by value, its six calls in one place: fresh and slot stand here; pin reset, host write and host read come from access, the interrupt line from status.
-// Each answers what the step rule says (01, Numbers refused; Session and listing).
+// The controller's six calls. State is changed in place; each answers what the step rule says (01, Numbers refused; Session and listing).
 #![tactic(auto)]
 
 ghost use Rattle.std.specs.Prelude.{◌≡◌};
@@ -7,9 +6,8 @@ ghost use Rattle.rules.specs.Definitions.Run as run;
 ghost use Rattle.rules.specs.Definitions.Answers as answers;
 ghost use Rattle.rules.specs.declared.Event.TheVariants as event;
 
-pub use access::{host_read, host_write, pin_reset};
 use registers::Map;
-use rules::{Controller, Outcome};
+use rules::{Controller, Refusal};
 pub use status::interrupt;
 
 // A fresh controller: a reset one with zero channels and mailbox.
@@ -17,20 +15,38 @@ pub use status::interrupt;
 pub fn fresh() -> Controller
     ensures { result ≡ run.fresh }
 {
+    let mut memory = [0u8; 256];
+    Map::reset_memory(&mut memory);
     Controller {
-        memory: Map::reset_memory([0u8; 256]),
+        memory,
         core: state::reset_core(),
     }
 }
 
-#[tactic(auto, using(std::proofs::lemmas::Bool::Decides::nat_tests), unfolding(rules::specs::Definitions::Answers::answer_of, rules::specs::Definitions::Answers::answer_lent, rules::specs::Definitions::Run::step))]
-pub fn slot(c: Controller, levels: u16) -> Outcome
-    ensures { answers.answer_of result ≡ run.step c (event.Slot levels) }
+#[tactic(auto, using(std::proofs::lemmas::Bool::Decides::nat_tests), unfolding(rules::specs::Definitions::Answers::done, rules::specs::Definitions::Run::step))]
+pub fn pin_reset(c: &mut Controller) -> Result<(), Refusal>
+    ensures { answers.done result c.new ≡ run.step c.old event.Reset }
 {
-    let mut t = c;
-    let x = slots::slot_on(&mut t.memory, c.core, levels);
-    let k = x.next; // the state that the slot leaves
-    t.core = k;
-    let reply = x.reply;
-    Outcome { reply, next: t }
+    host::pin_reset_on(&mut c.memory, &mut c.core)
+}
+
+#[tactic(auto, using(std::proofs::lemmas::Bool::Decides::nat_tests), unfolding(rules::specs::Definitions::Answers::done, rules::specs::Definitions::Run::step))]
+pub fn host_write(c: &mut Controller, address: u16, value: u16) -> Result<(), Refusal>
+    ensures { answers.done result c.new ≡ run.step c.old (event.Write address value) }
+{
+    host::host_write_on(&mut c.memory, &mut c.core, address, value)
+}
+
+#[tactic(auto, using(std::proofs::lemmas::Bool::Decides::nat_tests), unfolding(rules::specs::Definitions::Answers::lent, rules::specs::Definitions::Run::step))]
+pub fn host_read(c: &Controller, address: u16) -> Result<u8, Refusal>
+    ensures { answers.lent result c.now ≡ run.step c.now (event.Read address) }
+{
+    host_read::host_read_on(&c.memory, &c.core, address)
+}
+
+#[tactic(auto, using(std::proofs::lemmas::Bool::Decides::nat_tests), unfolding(rules::specs::Definitions::Answers::lent, rules::specs::Definitions::Run::step))]
+pub fn slot(c: &mut Controller, levels: u16) -> Result<u8, Refusal>
+    ensures { answers.lent result c.new ≡ run.step c.old (event.Slot levels) }
+{
+    slots::slot_on(&mut c.memory, &mut c.core, levels)
 }

@@ -1,15 +1,14 @@
 -- What the definitions say at a place of a slot sequence.
 use Prim.Native.Nat.{ℕ, zero, suc, ◌+◌, ◌-◌, ◌*◌, ◌/◌, ◌%◌, ◌^◌, ◌≤◌, ◌<◌}
 use mathlib.Core.Bool.{Bool, true, false}
-use mathlib.Core.List.{List, [], ◌∷◌, ◌++◌}
+use mathlib.Core.List.{List, [], ◌∷◌, ◌++◌, append_assoc, append-nil}
 use mathlib.Core.Path.{◌≡◌, refl, ap, ◌∙◌, sym}
 use native.Mathlib.Nat.{zero-add, suc-add, add-zero, pow-le-pow_right}
-use native.Mathlib.Numerals.{add-one}
 use native.Mathlib.Omega.{arith}
-use lib.Dec.{eqb, ltb, leb}
+use lib.Dec.{eqb, leb}
 use lib.ListN.{get_or, set, length, take, drop, length-drop, drop_of_length-le}
-use lib.Seq.{take_at, drop_at, sets}
-use borrow.Author.Tests.{eqb-true, leb-true, lt-ltb, le-ltb}
+use lib.Seq.{take_at, drop_at}
+use borrow.Author.Tests.{eq-eqb, ne_eqb, eqb-true, leb-true, lt-ltb, le-ltb, lt-leb}
 use Rattle.line.specs.Bits.{pick, bits, bits_value, bits_value_from, Below, none, one}
 use Rattle.line.specs.Check.{remainder, check, all_ones}
 use Rattle.line.specs.Frame.{Frame, longest_data, start, end_of_frame}
@@ -17,13 +16,13 @@ use Rattle.line.proofs.Laws.{next, bits_value_lem, value_below, value_append, re
 use Rattle.codec.specs.declared.Refusal.{Refusal}
 use Rattle.codec.specs.declared.Refusal.TheVariants.{Level, Start, Pair, Length, Check, Acknowledge, EndOfFrame, CutShort, LeftOver, Room}
 use Rattle.codec.specs.declared.Head.{Head}
-use Rattle.codec.specs.declared.Decoded.TheVariants.{Accepted, Refused}
-use Rattle.codec.proofs.Laws.{laid_sets}
+use Rattle.std.specs.Prelude.{Ok, Err}
+use Rattle.std.specs.List.{list_all}
+use Rattle.std.proofs.lemmas.List.{take_all, take_more_set}
+use Rattle.codec.specs.Answer.{laid}
 use Rattle.codec.specs.Decode.{Read, read, fault, Reading, frame, refused, after, levels, expected, most, nibbles, whole, plain_run, pair_at, right, second_slot, acknowledged, bytes_of, frame_of, head_of, ended, closing, judged, reading, decoded, decoded_room}
 use Rattle.codec.proofs.RoundTrip.{both, bytes_long}
 use Rattle.decoder.specs.View.{view, seen_bits, bytes_at, Follows, Sees, Gives}
-use Rattle.decoder.specs.declared.Found.TheVariants.{At, Fault}
-use Rattle.decoder.specs.declared.Seen.TheVariants.{Judged, Faulty}
 
 -- ---- views
 
@@ -91,13 +90,12 @@ remainder_next {s} l r k =
 
 -- ---- slots at a place
 
-pub levels_next : (s : List ℕ) (i : ℕ) → i < length s → levels (drop i s) ≡ pick (ltb 1 (get_or s i 0)) false (levels (drop (i + 1) s))
+pub levels_all : (s : List ℕ) → levels s ≡ list_all (λ x. leb x 1) s
 unfolding levels
-levels_next s i h = ap levels (next s i h)
-
-pub levels_end : (s : List ℕ) (i : ℕ) → length s ≤ i → levels (drop i s) ≡ true
-unfolding levels
-levels_end s i h = rw (drop_of_length-le s h)
+levels_all [] = refl
+levels_all (zero ∷ s) = levels_all s
+levels_all (suc zero ∷ s) = levels_all s
+levels_all (suc (suc x) ∷ s) = rw (lt-ltb 1 (suc (suc x)) (omega arith), lt-leb (suc (suc x)) 1 (omega arith))
 
 module _ (r : Refusal) (p s : List ℕ) (at i : ℕ) where
   pub expected_next : i < length p → at + i < length s →
@@ -208,24 +206,27 @@ pub judged_seen : (s t : List ℕ) (j : ℕ) →
 unfolding judged
 judged_seen s t j = rw (seen_nibbles s j)
 
-module _ (s : List ℕ) (at : ℕ) where
-  pub unacknowledged : length s - at < 1 → acknowledged (drop at s) ≡ fault CutShort
-  unfolding acknowledged
-  unacknowledged h = let k : length s ≤ at = omega arith in rw (drop_of_length-le s k)
+pub ack_empty : (t : List ℕ) → length t < 1 → acknowledged t ≡ fault CutShort
+unfolding acknowledged
+ack_empty [] h = refl
+ack_empty (a ∷ t) h = absurd (omega arith)
 
-  pub first_slot : at < length s → acknowledged (drop at s) ≡ pick (eqb (get_or s at 0) 1) (second_slot (drop (at + 1) s)) (fault Acknowledge)
-  unfolding acknowledged
-  first_slot h = rw (next s at h)
+pub ack_wrong : (t : List ℕ) → 1 ≤ length t → (get_or t 0 0 ≡ 1 → ⊥) → acknowledged t ≡ fault Acknowledge
+unfolding acknowledged
+ack_wrong [] h n = absurd (omega arith)
+ack_wrong (a ∷ t) h n = rw (ne_eqb a 1 n)
 
-  pub no_second : length s - at < 2 → second_slot (drop (at + 1) s) ≡ fault CutShort
-  unfolding second_slot
-  no_second h = let k : length s ≤ at + 1 = omega arith in rw (drop_of_length-le s k)
+pub ack_one : (t : List ℕ) → length t < 2 → get_or t 0 0 ≡ 1 → acknowledged t ≡ fault CutShort
+unfolding acknowledged second_slot
+ack_one [] h e = refl
+ack_one (a ∷ []) h e = rw (eq-eqb a 1 e)
+ack_one (a ∷ b ∷ t) h e = absurd (omega arith)
 
-  pub second_slot_lem : at + 1 < length s → second_slot (drop (at + 1) s) ≡ read (eqb (get_or s (at + 1) 0) 0) (drop (at + 2) s)
-  unfolding second_slot
-  second_slot_lem h =
-      let e : at + 1 + 1 ≡ at + 2 = omega arith in
-      rw (next s (at + 1) h, e)
+pub ack_two : (t : List ℕ) → 2 ≤ length t → get_or t 0 0 ≡ 1 → acknowledged t ≡ read (eqb (get_or t 1 0) 0) (drop 2 t)
+unfolding acknowledged second_slot
+ack_two [] h e = absurd (omega arith)
+ack_two (a ∷ []) h e = absurd (omega arith)
+ack_two (a ∷ b ∷ t) h e = rw (eq-eqb a 1 e)
 
 module _ (bs t : List ℕ) where
   pub closing_fault : {r : Refusal} → acknowledged t ≡ fault r → closing bs t ≡ refused r
@@ -250,20 +251,20 @@ at_end f s at h = rw (drop_of_length-le s h)
 
 -- what the decoder's functions found, put together
 module _ (bs s : List ℕ) (j : ℕ) where
-  pub not_seen : (r : Refusal) → Sees s (15 + 5 * j + 2) (Faulty r) (acknowledged (drop (15 + 5 * j) s)) → closing bs (drop (15 + 5 * j) s) ≡ refused r
+  pub not_seen : (r : Refusal) → Sees s (15 + 5 * j + 2) (Err r) (acknowledged (drop (15 + 5 * j) s)) → closing bs (drop (15 + 5 * j) s) ≡ refused r
   not_seen r e = closing_fault bs (drop (15 + 5 * j) s) e
 
-  module _ (a : Bool) (seen : Sees s (15 + 5 * j + 2) (Judged a) (acknowledged (drop (15 + 5 * j) s))) where
+  module _ (a : Bool) (seen : Sees s (15 + 5 * j + 2) (Ok a) (acknowledged (drop (15 + 5 * j) s))) where
     moved : acknowledged (drop (15 + 5 * j) s) ≡ read a (drop (17 + 5 * j) s)
     moved = let e : 15 + 5 * j + 2 ≡ 17 + 5 * j = omega arith in seen.1 ∙ rw e
 
-    pub not_ended : (r : Refusal) → Follows s (17 + 5 * j + 8) (Fault r) (expected EndOfFrame end_of_frame (drop (17 + 5 * j) s)) → closing bs (drop (15 + 5 * j) s) ≡ refused r
+    pub not_ended : (r : Refusal) → Follows s (17 + 5 * j + 8) (Err r) (expected EndOfFrame end_of_frame (drop (17 + 5 * j) s)) → closing bs (drop (15 + 5 * j) s) ≡ refused r
     not_ended r e = closing_end_fault bs (drop (15 + 5 * j) s) moved e
 
-    pub goes_on : (p : ℕ) → Follows s (17 + 5 * j + 8) (At p) (expected EndOfFrame end_of_frame (drop (17 + 5 * j) s)) → p < length s → closing bs (drop (15 + 5 * j) s) ≡ refused LeftOver
+    pub goes_on : (p : ℕ) → Follows s (17 + 5 * j + 8) (Ok p) (expected EndOfFrame end_of_frame (drop (17 + 5 * j) s)) → p < length s → closing bs (drop (15 + 5 * j) s) ≡ refused LeftOver
     goes_on p e h = closing_ended bs (drop (15 + 5 * j) s) moved e.2 ∙ left_over (frame_of bs a) s p h
 
-    pub is_whole : (p : ℕ) → Follows s (17 + 5 * j + 8) (At p) (expected EndOfFrame end_of_frame (drop (17 + 5 * j) s)) → length s ≤ p → closing bs (drop (15 + 5 * j) s) ≡ frame (frame_of bs a)
+    pub is_whole : (p : ℕ) → Follows s (17 + 5 * j + 8) (Ok p) (expected EndOfFrame end_of_frame (drop (17 + 5 * j) s)) → length s ≤ p → closing bs (drop (15 + 5 * j) s) ≡ frame (frame_of bs a)
     is_whole p e h = closing_ended bs (drop (15 + 5 * j) s) moved e.2 ∙ at_end (frame_of bs a) s p h
 
 -- ---- the frame
@@ -282,15 +283,15 @@ head_seen s j a h =
     let c : bits_value (take 4 (drop 12 (seen_bits s j))) ≡ bits_value (view s 12 4) = rw (view_drop s 0 12 (4 * j + 3) (omega arith), view_take s 12 4 (4 * j + 3 - 12) (omega arith)) in
     λ k. record { identifier = i k; command = c k; count = count_seen s j a h k; acknowledge = a }
 
-pub gives : (s : List ℕ) (j : ℕ) (a : Bool) (h : Head) (r : Reading) → 7 ≤ j → j % 2 ≡ 1 → 25 + 5 * j ≤ length s → Below 2 s
-    → h ≡ head_of (frame_of (seen_bits s j) a) → r ≡ frame (frame_of (seen_bits s j) a) → Gives s (Accepted h) r
+pub gives : (s : List ℕ) (j : ℕ) (a : Bool) (h : Head) (r : Reading) → 7 ≤ j → j % 2 ≡ 1 → 25 + 5 * j ≤ length s
+    → h ≡ head_of (frame_of (seen_bits s j) a) → r ≡ frame (frame_of (seen_bits s j) a) → Gives s (Ok h) r
 unfolding head_of frame_of
-gives s j a h r low odd long l e d =
+gives s j a h r low odd long e d =
     let n : h.count ≡ (j - 7) / 2 = ap (λ (x : Head). x.count) e ∙ count_seen s j a low in
     let k : h.acknowledge ≡ a = ap (λ (x : Head). x.acknowledge) e in
     let m : 31 + 8 * h.count ≡ 4 * j + 3 = omega arith in
     let g : frame_of (seen_bits s j) a ≡ frame_of (view s 0 (31 + 8 * h.count)) h.acknowledge = λ i. frame_of (view s 0 (sym m i)) (sym k i) in
-    (e ∙ ap head_of g, d ∙ ap frame g, omega arith, l)
+    (e ∙ ap head_of g, d ∙ ap frame g, omega arith)
 
 pub bytes_seen : (s : List ℕ) (n i m : ℕ) → 8 * n ≤ m → bytes_of n (view s i m) ≡ bytes_at s i n
 unfolding bytes_of bytes_at
@@ -304,7 +305,7 @@ frame_bytes s n a =
     let e : (31 + 8 * n - 31) / 8 ≡ n = omega arith in
     rw (view_length s 0 (31 + 8 * n), e, view_drop s 0 16 (31 + 8 * n) (omega arith)) (bytes_seen s n 16 (31 + 8 * n - 16) (omega arith))
 
-pub begun : (s : List ℕ) (p : ℕ) (r : Read (Unit {0})) → Follows s 10 (At p) r → r ≡ read tt (drop 10 s)
+pub begun : (s : List ℕ) (p : ℕ) (r : Read (Unit {0})) → Follows s 10 (Ok p) r → r ≡ read tt (drop 10 s)
 begun s p r f = f.2 ∙ ap (λ (k : ℕ). read tt (drop k s)) f.0
 
 module _ (s : List ℕ) where
@@ -326,39 +327,40 @@ module _ (s : List ℕ) where
       unfolding reading after
       coded bs t e = rw (l, b, e)
 
-pub fill_next : (s room : List ℕ) (n k : ℕ) → k < n →
-    sets room k (bytes_at s (16 + 8 * k) (n - k)) ≡ sets (set room k (bits_value (view s (16 + 8 * k) 8))) (k + 1) (bytes_at s (16 + 8 * (k + 1)) (n - (k + 1)))
+pub fill_next : (s room : List ℕ) (k : ℕ) → k < length room →
+    take (k + 1) (set room k (bits_value (view s (16 + 8 * k) 8))) ++ bytes_at s (16 + 8 * (k + 1)) (length room - (k + 1))
+    ≡ take k room ++ bytes_at s (16 + 8 * k) (length room - k)
 unfolding bytes_at
-fill_next s room n k h =
-    let e : n - k ≡ suc (n - (k + 1)) = omega arith in
-    let i : 16 + 8 * k + 8 ≡ 16 + 8 * (k + 1) = omega arith in
-    rw (e, i, add-one)
+fill_next s room k h =
+    let n : length room - k ≡ suc (length room - (k + 1)) = omega arith in
+    let i : 16 + 8 * (k + 1) ≡ 16 + 8 * k + 8 = omega arith in
+    let v : ℕ = bits_value (view s (16 + 8 * k) 8) in
+    rw (take_more_set room k v h, n, i) (append_assoc (take k room) (v ∷ []) (bytes_at s (16 + 8 * k + 8) (length room - (k + 1))))
 
-pub fill_end : (s room : List ℕ) (n k : ℕ) → n ≤ k → sets room k (bytes_at s (16 + 8 * k) (n - k)) ≡ room
+pub fill_end : (s room : List ℕ) (k : ℕ) → length room ≤ k → take k room ++ bytes_at s (16 + 8 * k) (length room - k) ≡ room
 unfolding bytes_at
-fill_end s room n k h = let e : n - k ≡ 0 = omega arith in rw e
+fill_end s room k h = let n : length room - k ≡ 0 = omega arith in rw (n, take_all k room h) (append-nil room)
 
 -- ---- the answer and the lent room
 
-pub room_refused : (room : List ℕ) (r : Refusal) (x : Reading) → x ≡ refused r → (Refused r ≡ decoded (length room) x) × (room ≡ decoded_room room x)
+pub room_refused : (room : List ℕ) (r : Refusal) (x : Reading) → x ≡ refused r → (Err r ≡ decoded (length room) x) × (room ≡ decoded_room room x)
 unfolding decoded decoded_room
 room_refused room r x e = (rw e, rw e)
 
-module _ (s room : List ℕ) (h : Head) (x : Reading) (g : Gives s (Accepted h) x) where
+module _ (s room : List ℕ) (h : Head) (x : Reading) (g : Gives s (Ok h) x) where
   count_is : h.count ≡ length (frame_of (view s 0 (31 + 8 * h.count)) h.acknowledge).bytes
   unfolding head_of
   count_is = ap (λ (y : Head). y.count) g.0
 
-  pub room_short : length room < h.count → (Refused Room ≡ decoded (length room) x) × (room ≡ decoded_room room x)
+  pub room_short : length room < h.count → (Err Room ≡ decoded (length room) x) × (room ≡ decoded_room room x)
   unfolding decoded decoded_room
   room_short k =
       let t = lt-ltb (length room) (length (frame_of (view s 0 (31 + 8 * h.count)) h.acknowledge).bytes) (rw (← count_is) k) in
       (rw (g.1, t), rw (g.1, t))
 
-  pub room_filled : h.count ≤ length room → (after' : List ℕ) → after' ≡ sets room 0 (bytes_at s 16 h.count)
-      → (Accepted h ≡ decoded (length room) x) × (after' ≡ decoded_room room x)
-  unfolding decoded decoded_room
-  room_filled k after' e =
+  pub room_filled : h.count ≤ length room → (Ok h ≡ decoded (length room) x) × (bytes_at s 16 h.count ++ drop h.count room ≡ decoded_room room x)
+  unfolding decoded decoded_room laid
+  room_filled k =
       let t = le-ltb (length room) (length (frame_of (view s 0 (31 + 8 * h.count)) h.acknowledge).bytes) (rw (← count_is) k) in
       let b = frame_bytes s h.count h.acknowledge in
-      (rw (g.1, t) (ap Accepted g.0), rw (g.1, t, b) (e ∙ laid_sets room (bytes_at s 16 h.count) (rw (← b, ← count_is) k)))
+      (rw (g.1, t) (ap Ok g.0), rw (g.1, t, ← count_is, b) refl)

@@ -8,11 +8,10 @@ use rules::{Delivery, Hearing, Reception};
 
 // A valid frame is stored where it fits, else it overflows.
 #[tactic(auto, using(std::proofs::lemmas::Bool::Decides::nat_tests), unfolding(rules::specs::Definitions::Delivery::delivered))]
-fn delivered(r: Reception) -> Delivery
-    ensures { result ≡ rule.delivered r }
+fn delivered(r: &Reception) -> Delivery
+    ensures { result ≡ rule.delivered r.now }
 {
-    let w = r.winner;
-    if hearing::fits(w, reception::data_count(r.nibbles)) {
+    if hearing::fits(r.winner, reception::data_count(r.nibbles)) {
         return Delivery::Stored;
     }
     Delivery::Overflowed
@@ -20,12 +19,11 @@ fn delivered(r: Reception) -> Delivery
 
 // What a sample does to a channel that has matched.
 #[tactic(auto, using(std::proofs::lemmas::Bool::Decides::nat_tests), unfolding(rules::specs::Definitions::Delivery::delivery_to))]
-fn delivery_to(h: Hearing, r: Reception) -> Delivery
-    ensures { result ≡ rule.delivery_to h r }
+fn delivery_to(h: Hearing, r: &Reception) -> Delivery
+    ensures { result ≡ rule.delivery_to h r.now }
 {
     match h {
-        Hearing::Silent => Delivery::Nothing,
-        Hearing::Follows => Delivery::Nothing,
+        Hearing::Silent | Hearing::Follows => Delivery::Nothing,
         Hearing::Fault(_) => Delivery::Spoiled,
         Hearing::Good => delivered(r),
     }
@@ -33,11 +31,10 @@ fn delivery_to(h: Hearing, r: Reception) -> Delivery
 
 // What a sample does to the channel that takes the frame, if one has matched.
 #[tactic(auto, using(std::proofs::lemmas::Bool::Decides::nat_tests), unfolding(rules::specs::Definitions::Delivery::delivery_of))]
-pub fn delivery_of(h: Hearing, r: Reception) -> Delivery
-    ensures { result ≡ rule.delivery_of h r }
+pub fn delivery_of(h: Hearing, r: &Reception) -> Delivery
+    ensures { result ≡ rule.delivery_of h r.now }
 {
-    let w = r.winner;
-    if w.matched {
+    if r.winner.matched {
         return delivery_to(h, r);
     }
     Delivery::Nothing
@@ -47,26 +44,29 @@ pub fn delivery_of(h: Hearing, r: Reception) -> Delivery
 
 // Status byte, data and, where M_L leaves two places, the check to the mailbox, the identifier to the tag, CHRx.
 #[tactic(auto, using(std::proofs::lemmas::Bool::Decides::nat_tests), unfolding(rules::specs::Definitions::Delivery::memory_stored))]
-fn store(m: &mut [u8; 256], r: Reception)
-    ensures { m.new ≡ rule.memory_stored m.old r }
+fn store(m: &mut [u8; 256], r: &Reception)
+    ensures { m.new ≡ rule.memory_stored m.old r.now }
 {
     let w = r.winner;
-    let b = r.bytes;
-    memory::store(m, w.pointer, w.length, b, reception::data_count(r.nibbles));
-    marks::retag(m, w.channel, b[0], b[1]);
+    memory::store(
+        m,
+        w.pointer,
+        w.length,
+        r.bytes,
+        reception::data_count(r.nibbles),
+    );
+    marks::retag(m, w.channel, r.bytes[0], r.bytes[1]);
     marks::mark_chrx(m, w.channel);
 }
 
 // What a delivery writes to the map: the frame, or CHER.
 #[tactic(auto, using(std::proofs::lemmas::Bool::Decides::nat_tests), unfolding(rules::specs::Definitions::Delivery::memory_delivered))]
-pub fn deliver(m: &mut [u8; 256], d: Delivery, r: Reception)
-    ensures { m.new ≡ rule.memory_delivered d m.old r }
+pub fn deliver(m: &mut [u8; 256], d: Delivery, r: &Reception)
+    ensures { m.new ≡ rule.memory_delivered d m.old r.now }
 {
-    let w = r.winner;
     match d {
         Delivery::Nothing => {}
         Delivery::Stored => store(m, r),
-        Delivery::Overflowed => marks::mark_cher(m, w.channel),
-        Delivery::Spoiled => marks::mark_cher(m, w.channel),
+        Delivery::Overflowed | Delivery::Spoiled => marks::mark_cher(m, r.winner.channel),
     }
 }

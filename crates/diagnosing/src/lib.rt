@@ -19,11 +19,11 @@ fn edge(before: u8, levels: u8, input: u8) -> bool
 }
 
 // One of the three inputs differs from the others.
-#[tactic(auto, using(std::proofs::lemmas::Bool::Decides::nat_tests, crate::proofs::Tests::neither), unfolding(diagnosis::specs::Rules::differ))]
+#[tactic(auto, using(std::proofs::lemmas::Bool::Decides::nat_tests), unfolding(diagnosis::specs::Rules::differ))]
 pub fn differ(levels: u8) -> bool
     ensures { result ≡ rule.differ levels }
 {
-    (levels != 0) & (levels != 7)
+    levels != 0 && levels != 7
 }
 
 // A count of edges, which stops at four.
@@ -31,13 +31,7 @@ pub fn differ(levels: u8) -> bool
 fn edges(b: bool, n: u32) -> u32
     ensures { result ≡ rule.counted 4 b n }
 {
-    if b {
-        if n < 4 {
-            return n + 1;
-        }
-        return n;
-    }
-    n
+    if b && n < 4 { n + 1 } else { n }
 }
 
 // Dominant slots in a row: the count stops at eight.
@@ -45,13 +39,10 @@ fn edges(b: bool, n: u32) -> u32
 pub fn dominant_run(level: u8, n: u32) -> u32
     ensures { result ≡ rule.dominant_run level n }
 {
-    if level == 0 {
-        if n < 8 {
-            return n + 1;
-        }
-        return n;
+    if level != 0 {
+        return 0;
     }
-    0
+    if n < 8 { n + 1 } else { n }
 }
 
 // ---- the input connected to the reception logic
@@ -65,19 +56,15 @@ fn automatic_input(c: Condition, alternate: bool) -> u8
         Condition::Nominal => 0,
         Condition::DegradedOnData => 1,
         Condition::DegradedOnDataBar => 2,
-        Condition::MajorError => {
-            if alternate {
-                return 2;
-            }
-            1
-        }
+        Condition::MajorError if alternate => 2,
+        Condition::MajorError => 1,
     }
 }
 
 // By Ma and Mb.
 #[tactic(auto, using(std::proofs::lemmas::Bool::Decides::nat_tests), unfolding(diagnosis::specs::Rules::connected))]
-pub fn connected(control: u8, x: Diagnosis) -> u8
-    ensures { result ≡ rule.connected control x }
+pub fn connected(control: u8, x: &Diagnosis) -> u8
+    ensures { result ≡ rule.connected control x.now }
 {
     let mode = Map::selection(control);
     if mode == 1 {
@@ -87,8 +74,7 @@ pub fn connected(control: u8, x: Diagnosis) -> u8
         return 1;
     }
     if Map::automatic(control) {
-        let c = x.condition;
-        return automatic_input(c, x.alternate);
+        return automatic_input(x.condition, x.alternate);
     }
     0
 }
@@ -96,53 +82,37 @@ pub fn connected(control: u8, x: Diagnosis) -> u8
 // ---- what a slot counts
 
 #[tactic(auto, using(std::proofs::lemmas::Bool::Decides::nat_tests), unfolding(diagnosis::specs::Rules::edges_counted))]
-fn edges_counted(before: u8, levels: u8, input: u8, p: Period) -> Period
-    ensures { result ≡ rule.edges_counted before levels input p }
+fn count_edges(p: &mut Period, before: u8, levels: u8, input: u8)
+    ensures { p.new ≡ rule.edges_counted before levels input p.old }
 {
-    Period {
-        slots: p.slots,
-        rxd1: edges(edge(before, levels, 1), p.rxd1),
-        rxd2: edges(edge(before, levels, 2), p.rxd2),
-        connected: edges(edge(before, levels, input), p.connected),
-        failure: p.failure,
-    }
+    p.rxd1 = edges(edge(before, levels, 1), p.rxd1);
+    p.rxd2 = edges(edge(before, levels, 2), p.rxd2);
+    p.connected = edges(edge(before, levels, input), p.connected);
 }
 
 // Counts, last levels and Sc.
-#[tactic(auto, using(std::proofs::lemmas::Bool::Decides::nat_tests, crate::proofs::Tests::or_pick), unfolding(diagnosis::specs::Rules::watched))]
-fn watched(input: u8, levels: u8, x: Diagnosis) -> Diagnosis
-    ensures { result ≡ rule.watched input levels x }
+#[tactic(auto, using(std::proofs::lemmas::Bool::Decides::nat_tests), unfolding(diagnosis::specs::Rules::watched))]
+fn watch(x: &mut Diagnosis, input: u8, levels: u8)
+    ensures { x.new ≡ rule.watched input levels x.old }
 {
-    let p = x.period;
-    let c = x.condition;
-    Diagnosis {
-        condition: c,
-        alternate: x.alternate,
-        sc: differ(levels) | x.sc,
-        levels,
-        dominant: dominant_run(registers::input_level(levels, input), x.dominant),
-        period: edges_counted(x.levels, levels, input, p),
-    }
+    count_edges(&mut x.period, x.levels, levels, input);
+    x.sc = differ(levels) || x.sc;
+    x.dominant = dominant_run(registers::input_level(levels, input), x.dominant);
+    x.levels = levels;
 }
 
 // ---- what its rules find
 
 // Four edges on one wire and none on the other.
 #[tactic(auto, using(std::proofs::lemmas::Bool::Decides::nat_tests), unfolding(diagnosis::specs::Rules::asynchronous))]
-fn asynchronous(p: Period) -> Finding
-    ensures { result ≡ rule.asynchronous p }
+fn asynchronous(p: &Period) -> Finding
+    ensures { result ≡ rule.asynchronous p.now }
 {
-    if p.rxd1 == 4 {
-        if p.rxd2 == 0 {
-            return Finding::DataBar;
-        }
-        return Finding::Nothing;
+    if p.rxd1 == 4 && p.rxd2 == 0 {
+        return Finding::DataBar;
     }
-    if p.rxd2 == 4 {
-        if p.rxd1 == 0 {
-            return Finding::Data;
-        }
-        return Finding::Nothing;
+    if p.rxd2 == 4 && p.rxd1 == 0 {
+        return Finding::Data;
     }
     Finding::Nothing
 }
@@ -152,33 +122,27 @@ fn asynchronous(p: Period) -> Finding
 fn transmission(compares: bool, levels: u8) -> Finding
     ensures { result ≡ rule.transmission compares levels }
 {
-    if compares {
-        let data = registers::input_level(levels, 1);
-        if data == registers::input_level(levels, 2) {
-            return Finding::Nothing;
-        }
-        if data == 1 {
-            return Finding::Data;
-        }
-        return Finding::DataBar;
+    let data = registers::input_level(levels, 1);
+    if !compares || data == registers::input_level(levels, 2) {
+        return Finding::Nothing;
     }
-    Finding::Nothing
+    if data == 1 {
+        return Finding::Data;
+    }
+    Finding::DataBar
 }
 
 // Eight dominant slots in a row; else what the transmission comparison finds, else the edges.
 #[tactic(auto, using(std::proofs::lemmas::Bool::Decides::nat_tests), unfolding(diagnosis::specs::Rules::found, diagnosis::specs::Rules::protocol, diagnosis::specs::Rules::or_else))]
-fn found(compares: bool, x: Diagnosis) -> Finding
-    ensures { result ≡ rule.found compares x }
+fn found(compares: bool, x: &Diagnosis) -> Finding
+    ensures { result ≡ rule.found compares x.now }
 {
     if x.dominant == 8 {
         return Finding::Both;
     }
-    let f = transmission(compares, x.levels);
-    match f {
-        Finding::Nothing => asynchronous(x.period),
-        Finding::Data => f,
-        Finding::DataBar => f,
-        Finding::Both => f,
+    match transmission(compares, x.levels) {
+        Finding::Nothing => asynchronous(&x.period),
+        f => f,
     }
 }
 
@@ -188,57 +152,41 @@ fn found(compares: bool, x: Diagnosis) -> Finding
 fn is_major(c: Condition) -> bool
     ensures { result ≡ rule.is_major c }
 {
-    match c {
-        Condition::Nominal => false,
-        Condition::DegradedOnData => false,
-        Condition::DegradedOnDataBar => false,
-        Condition::MajorError => true,
-    }
+    matches!(c, Condition::MajorError)
 }
 
 // A condition that was found, with a note of it in the period.
 #[tactic(auto, using(std::proofs::lemmas::Bool::Decides::nat_tests), unfolding(crate::specs::Steady::failed))]
-fn failed(x: Diagnosis, c: Condition) -> Diagnosis
-    ensures { result ≡ steady.failed x c }
+fn fail(x: &mut Diagnosis, c: Condition)
+    ensures { x.new ≡ steady.failed x.old c }
 {
-    let mut p = x.period;
-    p.failure = true;
-    Diagnosis {
-        condition: c,
-        alternate: x.alternate,
-        sc: x.sc,
-        levels: x.levels,
-        dominant: x.dominant,
-        period: p,
-    }
+    x.condition = c;
+    x.period.failure = true;
 }
 
 #[tactic(auto, using(std::proofs::lemmas::Bool::Decides::nat_tests), unfolding(diagnosis::specs::Rules::noted, diagnosis::specs::Rules::condition_found, diagnosis::specs::Rules::speaks, crate::specs::Steady::failed))]
-fn noted(f: Finding, x: Diagnosis) -> Diagnosis
-    ensures { result ≡ rule.noted f x }
+fn note(x: &mut Diagnosis, f: Finding)
+    ensures { x.new ≡ rule.noted f x.old }
 {
     match f {
-        Finding::Nothing => x,
-        Finding::Data => failed(x, Condition::DegradedOnDataBar),
-        Finding::DataBar => failed(x, Condition::DegradedOnData),
-        Finding::Both => failed(x, Condition::MajorError),
+        Finding::Nothing => {}
+        Finding::Data => fail(x, Condition::DegradedOnDataBar),
+        Finding::DataBar => fail(x, Condition::DegradedOnData),
+        Finding::Both => fail(x, Condition::MajorError),
     }
 }
 
 // ---- the SDC pulse
 
 #[tactic(auto, using(std::proofs::lemmas::Bool::Decides::nat_tests), unfolding(diagnosis::specs::Rules::condition_pulsed))]
-fn condition_pulsed(control: u8, p: Period, c: Condition) -> Condition
-    ensures { result ≡ rule.condition_pulsed control p c }
+fn condition_pulsed(control: u8, p: &Period, c: Condition) -> Condition
+    ensures { result ≡ rule.condition_pulsed control p.now c }
 {
     if p.connected < 4 {
         return Condition::MajorError;
     }
-    if Map::automatic(control) {
-        if p.failure {
-            return c;
-        }
-        return Condition::Nominal;
+    if Map::automatic(control) && p.failure {
+        return c;
     }
     Condition::Nominal
 }
@@ -273,27 +221,19 @@ pub fn undiagnosed() -> Diagnosis
 
 // Period and counts start anew.
 #[tactic(auto, using(std::proofs::lemmas::Bool::Decides::nat_tests), unfolding(diagnosis::specs::Rules::renewed))]
-pub fn renewed(x: Diagnosis) -> Diagnosis
-    ensures { result ≡ rule.renewed x }
+pub fn renew(x: &mut Diagnosis)
+    ensures { x.new ≡ rule.renewed x.old }
 {
-    let mut t = x;
-    t.period = new_period();
-    t
+    x.period = new_period();
 }
 
+// The period ends: the condition by its counts, and a new one.
 #[tactic(auto, using(std::proofs::lemmas::Bool::Decides::nat_tests), unfolding(diagnosis::specs::Rules::pulse, diagnosis::specs::Rules::renewed))]
-fn pulse(control: u8, x: Diagnosis) -> Diagnosis
-    ensures { result ≡ rule.pulse control x }
+fn end_period(x: &mut Diagnosis, control: u8)
+    ensures { x.new ≡ rule.pulse control x.old }
 {
-    let c = x.condition;
-    Diagnosis {
-        condition: condition_pulsed(control, x.period, c),
-        alternate: x.alternate,
-        sc: x.sc,
-        levels: x.levels,
-        dominant: x.dominant,
-        period: new_period(),
-    }
+    x.condition = condition_pulsed(control, &x.period, x.condition);
+    renew(x);
 }
 
 // ---- major error: RxD1 first, the other after each pulse
@@ -303,171 +243,127 @@ fn alternates(before: Condition, after: Condition, pulses: bool, alternate: bool
     ensures { result ≡ steady.alternates before after pulses alternate }
 {
     if is_major(before) {
-        if pulses {
-            return !alternate;
-        }
-        return alternate;
+        return alternate != pulses;
     }
-    if is_major(after) {
-        return false;
-    }
-    alternate
+    alternate && !is_major(after)
 }
 
 #[tactic(auto, using(std::proofs::lemmas::Bool::Decides::nat_tests), unfolding(diagnosis::specs::Rules::turned, crate::specs::Steady::alternates))]
-fn turned(before: Condition, pulses: bool, x: Diagnosis) -> Diagnosis
-    ensures { result ≡ rule.turned before pulses x }
+fn turn(x: &mut Diagnosis, before: Condition, pulses: bool)
+    ensures { x.new ≡ rule.turned before pulses x.old }
 {
-    let c = x.condition;
-    let mut t = x;
-    t.alternate = alternates(before, c, pulses, x.alternate);
-    t
+    x.alternate = alternates(before, x.condition, pulses, x.alternate);
 }
 
 // A pulse by hand.
 #[tactic(auto, using(std::proofs::lemmas::Bool::Decides::nat_tests), unfolding(diagnosis::specs::Rules::pulsed))]
-pub fn pulsed(control: u8, x: Diagnosis) -> Diagnosis
-    ensures { result ≡ rule.pulsed control x }
+pub fn pulse(x: &mut Diagnosis, control: u8)
+    ensures { x.new ≡ rule.pulsed control x.old }
 {
-    let c = x.condition;
-    turned(c, true, pulse(control, x))
+    let before = x.condition;
+    end_period(x, control);
+    turn(x, before, true);
 }
 
 // ---- the divider
 
 // The slot completes the period.
-#[tactic(auto, using(std::proofs::lemmas::Bool::Decides::nat_tests, registers::proofs::Dividers::divider_positive, registers::proofs::Dividers::one_slot, crate::proofs::Tests::last_slot), unfolding(diagnosis::specs::Rules::completes))]
-fn completes(control: u8, p: Period) -> bool
-    ensures { result ≡ rule.completes control p }
+#[tactic(auto, using(std::proofs::lemmas::Bool::Decides::nat_tests, registers::proofs::Dividers::one_slot), unfolding(diagnosis::specs::Rules::completes))]
+fn completes(control: u8, p: &Period) -> bool
+    ensures { result ≡ rule.completes control p.now }
 {
-    if Map::divider_runs(control) {
-        return Map::divider(control) - 1 <= p.slots;
-    }
-    false
+    Map::divider_runs(control) && Map::divider(control) - 1 <= p.slots
 }
 
 #[tactic(auto, using(std::proofs::lemmas::Bool::Decides::nat_tests, crate::proofs::Tests::next_slot), unfolding(diagnosis::specs::Rules::ticked))]
-fn ticked(control: u8, x: Diagnosis) -> Diagnosis
-    ensures { result ≡ rule.ticked control x }
+fn tick(x: &mut Diagnosis, control: u8)
+    ensures { x.new ≡ rule.ticked control x.old }
 {
-    let mut p = x.period;
-    if completes(control, p) {
-        return pulse(control, x);
+    if completes(control, &x.period) {
+        end_period(x, control);
+    } else if Map::divider_runs(control) {
+        x.period.slots += 1;
     }
-    if Map::divider_runs(control) {
-        p.slots = p.slots + 1;
-        let mut t = x;
-        t.period = p;
-        return t;
-    }
-    x
 }
 
 // ---- a slot
 
 #[tactic(auto, using(std::proofs::lemmas::Bool::Decides::nat_tests), unfolding(diagnosis::specs::Rules::judged))]
-fn judged(control: u8, levels: u8, turns: bool, x: Diagnosis) -> Diagnosis
-    ensures { result ≡ rule.judged control levels turns x }
+fn judge(x: &mut Diagnosis, control: u8, levels: u8, turns: bool)
+    ensures { x.new ≡ rule.judged control levels turns x.old }
 {
-    let t = watched(connected(control, x), levels, x);
-    if turns {
-        return noted(found(Map::compares_transmission(control), t), t);
-    }
-    noted(found(false, t), t)
+    watch(x, connected(control, x), levels);
+    let f = found(turns && Map::compares_transmission(control), x);
+    note(x, f);
 }
 
 // Counts, findings, the divider and its pulse, whose turn it is.
 #[tactic(auto, using(std::proofs::lemmas::Bool::Decides::nat_tests), unfolding(diagnosis::specs::Rules::clocked))]
-fn worked(control: u8, levels: u8, turns: bool, x: Diagnosis) -> Diagnosis
-    ensures { result ≡ rule.clocked control levels turns x }
+#[cold]
+#[inline(never)]
+fn work(x: &mut Diagnosis, control: u8, levels: u8, turns: bool)
+    ensures { x.new ≡ rule.clocked control levels turns x.old }
 {
-    let c = x.condition;
-    let t = judged(control, levels, turns, x);
-    turned(c, completes(control, x.period), ticked(control, t))
+    let before = x.condition;
+    let pulses = completes(control, &x.period);
+    judge(x, control, levels, turns);
+    tick(x, control);
+    turn(x, before, pulses);
 }
 
 // No count of edges changes, and no rule speaks of them: the input connected has four, RxD1 and RxD2 have as many as each other.
 #[tactic(auto, using(std::proofs::lemmas::Bool::Decides::nat_tests), unfolding(crate::specs::Steady::settled))]
-fn settled(before: u8, levels: u8, p: Period) -> bool
-    ensures { result ≡ steady.settled before levels p }
+fn settled(before: u8, levels: u8, p: &Period) -> bool
+    ensures { result ≡ steady.settled before levels p.now }
 {
-    if p.connected == 4 {
-        if p.rxd1 == p.rxd2 {
-            if p.rxd1 == 4 {
-                return true;
-            }
-            return levels / 2 == before / 2;
-        }
-        return false;
-    }
-    false
+    p.connected == 4 && p.rxd1 == p.rxd2 && (p.rxd1 == 4 || levels / 2 == before / 2)
 }
 
 // Nothing but last levels, dominant slots in a row and Sc can change.
 #[tactic(auto, using(std::proofs::lemmas::Bool::Decides::nat_tests), unfolding(crate::specs::Steady::passes))]
-pub fn passes(control: u8, levels: u8, turns: bool, run: u32, x: Diagnosis) -> bool
-    ensures { result ≡ steady.passes control levels turns run x }
+pub fn passes(control: u8, levels: u8, turns: bool, run: u32, x: &Diagnosis) -> bool
+    ensures { result ≡ steady.passes control levels turns run x.now }
 {
-    if Map::divider_runs(control) {
-        return false;
-    }
-    if turns {
-        return false;
-    }
-    if run == 8 {
-        return false;
-    }
-    settled(x.levels, levels, x.period)
+    !Map::divider_runs(control) && !turns && run != 8 && settled(x.levels, levels, &x.period)
 }
 
 // A slot, but for RI.
 #[tactic(auto, using(std::proofs::lemmas::Bool::Decides::nat_tests, crate::proofs::Passing::quick))]
-fn clocked(control: u8, levels: u8, turns: bool, x: Diagnosis) -> Diagnosis
-    ensures { result ≡ rule.clocked control levels turns x }
+fn clock(x: &mut Diagnosis, control: u8, levels: u8, turns: bool)
+    ensures { x.new ≡ rule.clocked control levels turns x.old }
 {
     let run = dominant_run(
         registers::input_level(levels, connected(control, x)),
         x.dominant,
     );
     if passes(control, levels, turns, run, x) {
-        let mut t = x;
-        t.sc = differ(levels) | x.sc;
-        t.levels = levels;
-        t.dominant = run;
-        return t;
+        x.sc = differ(levels) | x.sc; // `||` was tried, and the proof did not close (goal `returns-after-differ`)
+        x.levels = levels;
+        x.dominant = run;
+    } else {
+        work(x, control, levels, turns);
     }
-    worked(control, levels, turns, x)
 }
 
 // RI: nominal, Sc 0.
 #[tactic(auto, using(std::proofs::lemmas::Bool::Decides::nat_tests), unfolding(diagnosis::specs::Rules::returned))]
-fn returned(x: Diagnosis) -> Diagnosis
-    ensures { result ≡ rule.returned x }
+fn return_to_nominal(x: &mut Diagnosis)
+    ensures { x.new ≡ rule.returned x.old }
 {
-    let p = x.period;
-    Diagnosis {
-        condition: Condition::Nominal,
-        alternate: false,
-        sc: false,
-        levels: x.levels,
-        dominant: x.dominant,
-        period: p,
-    }
+    x.condition = Condition::Nominal;
+    x.alternate = false;
+    x.sc = false;
 }
 
 // A slot. turns: the model's own frame turns from dominant to recessive; ended: a good frame ends.
 #[tactic(auto, using(std::proofs::lemmas::Bool::Decides::nat_tests), unfolding(diagnosis::specs::Rules::diagnosed, diagnosis::specs::Rules::returns))]
-pub fn diagnosed(control: u8, levels: u8, turns: bool, ended: bool, x: Diagnosis) -> Diagnosis
-    ensures { result ≡ rule.diagnosed control levels turns ended x }
+pub fn diagnose(x: &mut Diagnosis, control: u8, levels: u8, turns: bool, ended: bool)
+    ensures { x.new ≡ rule.diagnosed control levels turns ended x.old }
 {
-    let t = clocked(control, levels, turns, x);
-    if Map::automatic(control) {
-        return t;
+    clock(x, control, levels, turns);
+    if ended && !Map::automatic(control) {
+        return_to_nominal(x);
     }
-    if ended {
-        return returned(t);
-    }
-    t
 }
 
 // ---- 0x04
@@ -477,12 +373,7 @@ pub fn diagnosed(control: u8, levels: u8, turns: bool, ended: bool, x: Diagnosis
 pub fn fault_on_data(c: Condition) -> bool
     ensures { result ≡ rule.fault_on_data c }
 {
-    match c {
-        Condition::Nominal => false,
-        Condition::DegradedOnData => false,
-        Condition::DegradedOnDataBar => true,
-        Condition::MajorError => true, // on DATA too
-    }
+    matches!(c, Condition::DegradedOnDataBar | Condition::MajorError)
 }
 
 // Sb: a fault on DATA-bar.
@@ -490,10 +381,5 @@ pub fn fault_on_data(c: Condition) -> bool
 pub fn fault_on_data_bar(c: Condition) -> bool
     ensures { result ≡ rule.fault_on_data_bar c }
 {
-    match c {
-        Condition::Nominal => false,
-        Condition::DegradedOnData => true,
-        Condition::DegradedOnDataBar => false,
-        Condition::MajorError => true, // on DATA-bar too
-    }
+    matches!(c, Condition::DegradedOnData | Condition::MajorError)
 }

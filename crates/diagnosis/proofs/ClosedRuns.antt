@@ -66,9 +66,9 @@ not_in_a_row : shows (ran 0x00 (0 ∷ 0 ∷ 0 ∷ 0 ∷ 0 ∷ 0 ∷ 0 ∷ 7 ∷ 
 unfolding slot ran one shows each by_hand reset hears
 not_in_a_row = refl
 
-by_hand_lem : shows (by_hand 0x00 reset) ≡ 3
+by_hand_major : shows (by_hand 0x00 reset) ≡ 3
 unfolding slot ran one shows each by_hand reset hears
-by_hand_lem = refl
+by_hand_major = refl
 
 by_hand_nominal : shows (by_hand 0x00 (ran 0x00 (0 ∷ 7 ∷ 0 ∷ 7 ∷ []) (by_hand 0x00 reset))) ≡ 0
 unfolding slot ran one shows each by_hand reset hears
@@ -144,7 +144,7 @@ courses =
       stopped = stopped;
       eight = eight;
       not_in_a_row = not_in_a_row;
-      by_hand_lem = by_hand_lem;
+      by_hand_major = by_hand_major;
       by_hand_nominal = by_hand_nominal;
       by_hand_connected = by_hand_connected;
       sc_stays = sc_stays;

@@ -63,7 +63,7 @@ pub record Courses : Type 0 where
   pub eight : each 0x00 (replicate 8 0) reset ≡ 0 ∷ 0 ∷ 0 ∷ 0 ∷ 0 ∷ 0 ∷ 0 ∷ 3 ∷ []
   pub not_in_a_row : shows (ran 0x00 (0 ∷ 0 ∷ 0 ∷ 0 ∷ 0 ∷ 0 ∷ 0 ∷ 7 ∷ 0 ∷ []) reset) ≡ 0
   -- the pulse by hand: at once; with four edges on the input connected it is nominal again; edges of another input do not count
-  pub by_hand_lem : shows (by_hand 0x00 reset) ≡ 3
+  pub by_hand_major : shows (by_hand 0x00 reset) ≡ 3
   pub by_hand_nominal : shows (by_hand 0x00 (ran 0x00 (0 ∷ 7 ∷ 0 ∷ 7 ∷ []) (by_hand 0x00 reset))) ≡ 0
   pub by_hand_connected : (shows (ran 0x0C (3 ∷ 7 ∷ 3 ∷ 7 ∷ []) reset) ≡ 5) × (shows (by_hand 0x0C (ran 0x0C (3 ∷ 7 ∷ 3 ∷ 7 ∷ []) reset)) ≡ 7)
   -- Sc stays through a pulse

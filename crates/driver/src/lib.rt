@@ -10,11 +10,11 @@ use rules::Coded;
 
 // A nibble of the frame's bytes, the high half of a byte first.
 #[tactic(auto, using(std::proofs::lemmas::Bool::Decides::nat_tests), unfolding(crate::specs::Driver::nibble_at))]
-fn nibble_at(bytes: [u8; line::CODED_BYTES], i: u16) -> u8
+fn nibble_at(bytes: &[u8; line::CODED_BYTES], i: u16) -> u8
     requires { i < 2 * (frame.longest_data + 4) }
-    ensures { result ≡ driver.nibble_at bytes i }
+    ensures { result ≡ driver.nibble_at bytes.now i }
 {
-    let b = bytes[(i / 2) as usize];
+    let b = bytes[usize::from(i / 2)];
     if i % 2 == 0 {
         return b / 16;
     }
@@ -23,31 +23,31 @@ fn nibble_at(bytes: [u8; line::CODED_BYTES], i: u16) -> u8
 
 // A slot of the coded part, which begins behind the start.
 #[tactic(auto, using(std::proofs::lemmas::Bool::Decides::nat_tests), unfolding(crate::specs::Driver::slot_coded))]
-fn slot_coded(bytes: [u8; line::CODED_BYTES], m: u16) -> u8
+fn slot_coded(bytes: &[u8; line::CODED_BYTES], m: u16) -> u8
     requires { m < 38 + 10 * frame.longest_data }
-    ensures { result ≡ driver.slot_coded bytes m }
+    ensures { result ≡ driver.slot_coded bytes.now m }
 {
     let slots = line::pattern(nibble_at(bytes, m / 5));
-    slots[(m % 5) as usize]
+    slots[usize::from(m % 5)]
 }
 
 // The number of data bytes. No state in range has one above LONGEST, and only such a one is divided.
-fn count(n: u8) -> u8
+fn count(n: u8) -> u16
     ensures value { result ≡ n % (frame.longest_data + 1) }
     ensures range { result ≤ frame.longest_data }
 {
     if n < line::COUNTS {
-        return n;
+        return u16::from(n);
     }
-    n % line::COUNTS
+    u16::from(n % line::COUNTS)
 }
 
 // The level of slot k of the frame of n data bytes: recessive behind the end of data, and past the frame.
 #[tactic(auto, using(std::proofs::lemmas::Bool::Decides::nat_tests, crate::proofs::Levels::level_placed), unfolding(crate::specs::Driver::placed))]
-fn level_of(bytes: [u8; line::CODED_BYTES], n: u8, k: u16) -> u8
-    ensures { result ≡ rule.level_at (driver.framed n bytes) k }
+fn level_of(bytes: &[u8; line::CODED_BYTES], n: u8, k: u16) -> u8
+    ensures { result ≡ rule.level_at (driver.framed n bytes.now) k }
 {
-    let long = 10 * (count(n) as u16);
+    let long = 10 * count(n);
     if k < 10 {
         return line::start_level(k);
     }
@@ -62,9 +62,8 @@ fn level_of(bytes: [u8; line::CODED_BYTES], n: u8, k: u16) -> u8
 
 // The same, of the fixed frame.
 #[tactic(auto, using(std::proofs::lemmas::Bool::Decides::nat_tests), unfolding(crate::specs::Driver::framed))]
-pub fn level_at(x: Coded, k: u16) -> u8
-    ensures { result ≡ rule.level_at x k }
+pub fn level_at(x: &Coded, k: u16) -> u8
+    ensures { result ≡ rule.level_at x.now k }
 {
-    let bytes = x.bytes;
-    level_of(bytes, x.n, k)
+    level_of(&x.bytes, x.n, k)
 }

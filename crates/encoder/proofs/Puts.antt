@@ -1,43 +1,35 @@
--- Slots laid into lent room, one part after another.
-use Prim.Native.Nat.{ℕ, suc, ◌+◌, ◌*◌, ◌/◌, ◌%◌, ◌≤◌, ◌<◌}
+-- The parts of a frame, each in slots of its own.
+use Prim.Native.Nat.{ℕ, ◌+◌, ◌*◌, ◌/◌, ◌%◌, ◌≤◌, ◌<◌}
 use mathlib.Core.Bool.{Bool}
-use mathlib.Core.List.{List, [], ◌∷◌, ◌++◌, append_assoc}
+use mathlib.Core.List.{List, [], ◌∷◌, ◌++◌, append_assoc, append-nil}
 use mathlib.Core.Path.{◌≡◌, ap, ◌∙◌, sym}
 use native.Mathlib.Nat.{div-one}
 use native.Mathlib.Omega.{arith}
-use lib.ListN.{get_or, set, length, drop, length-append, drop_of_length-le}
-use lib.Seq.{sets}
+use lib.ListN.{get_or, length, take, drop, length-append, drop_of_length-le}
+use borrow.Rule.Slice.PartMut.{put_mid}
+use Rattle.std.specs.Prelude.{flat_map}
+use Rattle.std.proofs.lemmas.List.{take_all}
+use Rattle.std.proofs.lemmas.Slice.{take-put_mid}
 use Rattle.line.specs.Bits.{bits}
 use Rattle.line.specs.LineCode.{line_code, pattern}
 use Rattle.line.specs.Check.{check}
 use Rattle.line.specs.Frame.{byte_bits, covered, carried, start, closing_slots, slots}
-use Rattle.line.proofs.Laws.{next, header_bits, bits_length, bits_split, bits_mod, code_append, code_length, pattern_length, nibble_code, byte_bits_length, covered_length}
-use Rattle.line.proofs.Room.{sets_append}
+use Rattle.line.proofs.Laws.{next, header_bits, bits_length, bits_split, bits_mod, code_append, pattern_length, pattern_mod, nibble_code, covered_length}
 use Rattle.codec.specs.Encode.{given}
-
--- one part, and the next one behind it
-pub joined : (a b c : List ℕ) (i k : ℕ) (vs ws : List ℕ) → b ≡ sets a i vs → c ≡ sets b k ws → k ≡ i + length vs → c ≡ sets a i (vs ++ ws)
-joined a b c i k vs ws p q e = q ∙ rw (p, e) (sym (sets_append a i vs ws))
-
-pub put_three : (l : List ℕ) (at a b c : ℕ) → set (set (set l (at + 15) a) (at + 16) b) (at + 17) c ≡ sets l (at + 15) (a ∷ b ∷ c ∷ [])
-put_three l at a b c =
-    let d : at + 16 ≡ suc (at + 15) = omega arith in
-    let e : at + 17 ≡ suc (suc (at + 15)) = omega arith in
-    rw (d, e)
 
 -- ---- the parts by nibbles
 
-pub byte_slots : (b : ℕ) → line_code (bits 8 b) ≡ pattern (b / 16) ++ pattern (b % 16)
+pub byte_code : (b : ℕ) → line_code (bits 8 b) ≡ flat_map pattern (b / 16 ∷ b % 16 ∷ [])
 unfolding pattern
-byte_slots b = rw (bits_split 4 4, ← (bits_mod 4 b)) (nibble_code (b / 16) (bits 4 (b % 16)))
+byte_code b = rw (bits_split 4 4, ← (bits_mod 4 b)) (nibble_code (b / 16) (bits 4 (b % 16)) ∙ simp append-nil)
 
 twelve : (i : ℕ) → bits 12 i ≡ bits 4 (i / 256) ++ (bits 4 (i / 16 % 16) ++ bits 4 (i % 16))
 twelve i = bits_split 4 8 i ∙ ap (λ (l : List ℕ). bits 4 (i / 256) ++ l) (bits_split 4 4 i ∙ rw (← (bits_mod 4 (i / 16)), ← (bits_mod 4 i)))
 
-pub header_code : (i c : ℕ) → line_code (bits 12 i ++ bits 4 c) ≡ ((pattern (i / 256) ++ pattern (i / 16 % 16)) ++ pattern (i % 16)) ++ pattern c
+pub header_code : (i c : ℕ) → line_code (bits 12 i ++ bits 4 c) ≡ flat_map pattern (i / 256 ∷ i / 16 % 16 ∷ i % 16 ∷ c ∷ [])
 unfolding pattern
 header_code i c =
-    rw (twelve, append_assoc (bits 4 (i / 256)), append_assoc (bits 4 (i / 16 % 16)), nibble_code (i / 256), nibble_code (i / 16 % 16), nibble_code (i % 16)) (simp append_assoc)
+    rw (twelve, append_assoc (bits 4 (i / 256)), append_assoc (bits 4 (i / 16 % 16)), nibble_code (i / 256), nibble_code (i / 16 % 16), nibble_code (i % 16)) (simp append-nil)
 
 fifteen : (c : ℕ) → bits 15 c ≡ bits 4 (c / 2048) ++ (bits 4 (c / 128 % 16) ++ (bits 4 (c / 8 % 16) ++ bits 3 c))
 fifteen c =
@@ -48,35 +40,34 @@ three_code : (c : ℕ) → line_code (bits 3 c) ≡ (c / 4 % 2) ∷ (c / 2 % 2) 
 unfolding line_code bits
 three_code c = simp div-one
 
-pub check_code : (c : ℕ) → line_code (bits 15 c) ≡ ((pattern (c / 2048) ++ pattern (c / 128 % 16)) ++ pattern (c / 8 % 16)) ++ ((c / 4 % 2) ∷ (c / 2 % 2) ∷ (c % 2) ∷ [])
+pub check_code : (c : ℕ) → line_code (bits 15 c) ≡ flat_map pattern (c / 2048 ∷ c / 128 % 16 ∷ c / 8 % 16 ∷ []) ++ (c / 4 % 2 ∷ c / 2 % 2 ∷ c % 2 ∷ [])
 check_code c =
-    rw (fifteen, nibble_code (c / 2048), nibble_code (c / 128 % 16), nibble_code (c / 8 % 16), three_code) (simp append_assoc)
+    rw (fifteen, nibble_code (c / 2048), nibble_code (c / 128 % 16), nibble_code (c / 8 % 16), three_code) (simp (append_assoc, append-nil))
 
-pub bytes_next : (room bs : List ℕ) (k : ℕ) → k < length bs →
-    sets room (30 + 10 * k) (line_code (byte_bits (drop k bs)))
-    ≡ sets (sets room (30 + 10 * k) (line_code (bits 8 (get_or bs k 0)))) (30 + 10 * (k + 1)) (line_code (byte_bits (drop (k + 1) bs)))
+-- ---- part by part: what is laid, and what is left
+
+pub nibbles_next : (room ys ns : List ℕ) (k w : ℕ) → k < length ns → 5 * k ≤ length room → ys ≡ pattern (get_or ns k 0 % 16)
+    → take (5 * (k + 1)) (put_mid (5 * k) w room ys) ++ flat_map pattern (drop (k + 1) ns) ≡ take (5 * k) room ++ flat_map pattern (drop k ns)
+nibbles_next room ys ns k w h l e =
+    let p : ys ≡ pattern (get_or ns k 0) = e ∙ pattern_mod (get_or ns k 0) in
+    let n : 5 * (k + 1) ≡ 5 * k + length ys = rw (p, pattern_length) (omega arith) in
+    rw (take-put_mid (5 * k) w room ys (5 * (k + 1)) n l, next ns k h, p) (append_assoc (take (5 * k) room) (pattern (get_or ns k 0)) (flat_map pattern (drop (k + 1) ns)))
+
+pub bytes_next : (room ys bs : List ℕ) (k w : ℕ) → k < length bs → 10 * k ≤ length room → ys ≡ flat_map pattern (get_or bs k 0 / 16 ∷ get_or bs k 0 % 16 ∷ [])
+    → take (10 * (k + 1)) (put_mid (10 * k) w room ys) ++ line_code (byte_bits (drop (k + 1) bs)) ≡ take (10 * k) room ++ line_code (byte_bits (drop k bs))
 unfolding byte_bits
-bytes_next room bs k h =
+bytes_next room ys bs k w h l e =
     let b : ℕ = get_or bs k 0 in
-    let l : length (line_code (bits 8 b)) ≡ 10 = code_length (bits 8 b) ∙ rw bits_length in
-    let e : 30 + 10 * (k + 1) ≡ 30 + 10 * k + length (line_code (bits 8 b)) = omega arith in
-    rw (next bs k h, code_append (bits 8 b) (byte_bits (drop (k + 1) bs)) (rw bits_length), sets_append, e)
+    let p : ys ≡ line_code (bits 8 b) = e ∙ sym (byte_code b) in
+    let u = pattern_length (b / 16) in
+    let v = pattern_length (b % 16) in
+    let n : 10 * (k + 1) ≡ 10 * k + length ys = rw (e, length-append, append-nil, u, v) (omega arith) in
+    rw (take-put_mid (10 * k) w room ys (10 * (k + 1)) n l, next bs k h, code_append (bits 8 b) (byte_bits (drop (k + 1) bs)) (rw bits_length), p)
+    (append_assoc (take (10 * k) room) (line_code (bits 8 b)) (line_code (byte_bits (drop (k + 1) bs))))
 
-pub bytes_end : (room bs : List ℕ) (k : ℕ) → length bs ≤ k → sets room (30 + 10 * k) (line_code (byte_bits (drop k bs))) ≡ room
+pub bytes_end : (room bs : List ℕ) (k : ℕ) → length bs ≤ k → length room ≡ 10 * length bs → take (10 * k) room ++ line_code (byte_bits (drop k bs)) ≡ room
 unfolding byte_bits line_code
-bytes_end room bs k h = rw (drop_of_length-le bs h)
-
--- three nibbles, one behind the other
-pub three_nibbles : (r₀ r₁ r₂ r₃ : List ℕ) (at k m a b c : ℕ) → r₁ ≡ sets r₀ at (pattern a) → r₂ ≡ sets r₁ k (pattern b) → r₃ ≡ sets r₂ m (pattern c) → k ≡ at + 5 → m ≡ at + 10
-    → r₃ ≡ sets r₀ at ((pattern a ++ pattern b) ++ pattern c)
-three_nibbles r₀ r₁ r₂ r₃ at k m a b c p q r d e =
-    let u = pattern_length a in
-    let v = length-append (pattern a) (pattern b) in
-    let w = pattern_length b in
-    joined r₀ r₂ r₃ at m (pattern a ++ pattern b) (pattern c) (joined r₀ r₁ r₂ at k (pattern a) (pattern b) p q (omega arith)) r (omega arith)
-
-pub three_long : (a b c : ℕ) → length ((pattern a ++ pattern b) ++ pattern c) ≡ 15
-three_long a b c = simp (length-append, pattern_length)
+bytes_end room bs k h e = rw (drop_of_length-le bs h, take_all (10 * k) room (omega arith)) (append-nil room)
 
 -- ---- the check over identifier, command and data
 
@@ -90,48 +81,12 @@ check_bits i c bs h =
 
 -- ---- the whole frame
 
-abbrev header : ℕ → ℕ → List ℕ
-header i c = line_code (bits 12 i ++ bits 4 c)
-
-carried_code : (i c : ℕ) (bs : List ℕ) (a : Bool) →
-    line_code (carried (given i c bs a)) ≡ (header i c ++ line_code (byte_bits bs)) ++ line_code (bits 15 (check (covered (given i c bs a))))
-unfolding carried covered
-carried_code i c bs a =
-    let l = covered_length (given i c bs a) in
-    code_append (covered (given i c bs a)) (bits 15 (check (covered (given i c bs a)))) (omega arith)
-    ∙ ap (λ (s : List ℕ). s ++ line_code (bits 15 (check (covered (given i c bs a)))))
-    (ap line_code (sym (append_assoc (bits 12 i) (bits 4 c) (byte_bits bs))) ∙ code_append (bits 12 i ++ bits 4 c) (byte_bits bs) (simp (length-append, bits_length)))
-
-header_long : (i c : ℕ) → length (header i c) ≡ 20
-header_long i c = code_length (bits 12 i ++ bits 4 c) ∙ simp (length-append, bits_length)
-
-bytes_long : (bs : List ℕ) → length (line_code (byte_bits bs)) ≡ 10 * length bs
-bytes_long bs = code_length (byte_bits bs) ∙ rw byte_bits_length (omega arith)
-
-check_long : (c : ℕ) → length (line_code (bits 15 c)) ≡ 18
-check_long c = code_length (bits 15 c) ∙ rw bits_length
-
--- start, header, data, check and closing, one behind the other
-pub whole_frame : (r₀ r₁ r₂ r₃ r₄ r₅ : List ℕ) (i c : ℕ) (bs : List ℕ) (a : Bool) (n : ℕ) → n ≡ 10 * length bs
-    → r₁ ≡ sets r₀ 0 start
-    → r₂ ≡ sets r₁ 10 (line_code (bits 12 i ++ bits 4 c))
-    → r₃ ≡ sets r₂ 30 (line_code (byte_bits bs))
-    → r₄ ≡ sets r₃ (30 + n) (line_code (bits 15 (check (covered (given i c bs a)))))
-    → r₅ ≡ sets r₄ (48 + n) (closing_slots a)
-    → r₅ ≡ sets r₀ 0 (slots (given i c bs a))
-unfolding slots start
-whole_frame r₀ r₁ r₂ r₃ r₄ r₅ i c bs a n e p q r s t =
+pub whole_frame : (i c : ℕ) (bs : List ℕ) (a : Bool) →
+    slots (given i c bs a)
+    ≡ start ++ (line_code (bits 12 i ++ bits 4 c) ++ (line_code (byte_bits bs) ++ (line_code (bits 15 (check (covered (given i c bs a)))) ++ closing_slots a)))
+unfolding slots carried covered
+whole_frame i c bs a =
     let k : ℕ = check (covered (given i c bs a)) in
-    let h = header_long i c in
-    let d = bytes_long bs in
-    let m = check_long k in
-    let u = length-append start (header i c) in
-    let v = length-append (start ++ header i c) (line_code (byte_bits bs)) in
-    let w = length-append ((start ++ header i c) ++ line_code (byte_bits bs)) (line_code (bits 15 k)) in
-    let x = joined r₀ r₁ r₂ 0 10 start (header i c) p q (omega arith) in
-    let y = joined r₀ r₂ r₃ 0 30 (start ++ header i c) (line_code (byte_bits bs)) x r (omega arith) in
-    let z = joined r₀ r₃ r₄ 0 (30 + n) ((start ++ header i c) ++ line_code (byte_bits bs)) (line_code (bits 15 k)) y s (omega arith) in
-    let g : (((start ++ header i c) ++ line_code (byte_bits bs)) ++ line_code (bits 15 k)) ++ (closing_slots a) ≡ slots (given i c bs a) =
-    rw (carried_code i c bs a) (simp append_assoc) in
-    joined r₀ r₄ r₅ 0 (48 + n) (((start ++ header i c) ++ line_code (byte_bits bs)) ++ line_code (bits 15 k)) (closing_slots a) z t (omega arith)
-    ∙ ap (λ (l : List ℕ). sets r₀ 0 l) g
+    let l = covered_length (given i c bs a) in
+    rw (code_append (covered (given i c bs a)) (bits 15 k) (omega arith), ← (append_assoc (bits 12 i) (bits 4 c) (byte_bits bs)), code_append (bits 12 i ++ bits 4 c) (byte_bits bs) (simp (length-append, bits_length)))
+    (simp append_assoc)

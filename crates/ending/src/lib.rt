@@ -33,68 +33,53 @@ pub fn resting() -> Service
 
 // Between attempts: exhaustion is judged first, then an abort, then REAR.
 #[tactic(auto, using(std::proofs::lemmas::Bool::Decides::nat_tests), unfolding(rules::specs::Definitions::Service::stopped))]
-pub fn stopped(s: Service) -> Ending
-    ensures { result ≡ rule.stopped s }
+pub fn stopped(s: &Service) -> Ending
+    ensures { result ≡ rule.stopped s.now }
 {
-    let e = s.effort;
-    if stage::between_attempts(e.progress) {
-        if attempt::exhausted(e) {
-            return Ending::Exhausted;
-        }
-        if s.abort {
-            return Ending::Aborted;
-        }
-        if s.rear {
-            return Ending::Rearbitrated;
-        }
+    if !stage::between_attempts(s.effort.progress) {
         return Ending::Going;
+    }
+    if attempt::exhausted(&s.effort) {
+        return Ending::Exhausted;
+    }
+    if s.abort {
+        return Ending::Aborted;
+    }
+    if s.rear {
+        return Ending::Rearbitrated;
     }
     Ending::Going
 }
 
 // How the service ends in this slot: success, or as between attempts.
 #[tactic(auto, using(std::proofs::lemmas::Bool::Decides::nat_tests), unfolding(rules::specs::Definitions::Service::ending_of))]
-pub fn ending_of(w: Verdict, s: Service) -> Ending
-    ensures { result ≡ rule.ending_of w s }
+pub fn ending_of(w: Verdict, s: &Service) -> Ending
+    ensures { result ≡ rule.ending_of w s.now }
 {
     match w {
-        Verdict::Unjudged => stopped(s),
-        Verdict::Goes => stopped(s),
-        Verdict::Lost => stopped(s),
-        Verdict::Failed(_) => stopped(s),
         Verdict::Done => Ending::Sent,
-        Verdict::Answered => stopped(s),
+        _ => stopped(s),
     }
 }
 
 // A reply that the channel of a waiting request stores: a frame with R/W 1 and RTR 0.
 #[tactic(auto, using(std::proofs::lemmas::Bool::Decides::nat_tests), unfolding(rules::specs::Definitions::Service::fulfils))]
-fn fulfils(d: Delivery, r: Reception, s: Service) -> bool
-    ensures { result ≡ rule.fulfils d r s }
+pub fn fulfils(d: Delivery, r: &Reception, s: &Service) -> bool
+    ensures { result ≡ rule.fulfils d r.now s.now }
 {
-    let w = r.winner;
-    let b = r.bytes;
-    let e = s.effort;
-    match d {
-        Delivery::Nothing => false,
-        Delivery::Stored => {
-            if stage::between_attempts(e.progress) {
-                return (attempt::is_request(e.frame))
-                    & ((w.channel == s.channel) & (b[1] % 4 == 0b10));
-            }
-            false
-        }
-        Delivery::Overflowed => false,
-        Delivery::Spoiled => false,
-    }
+    matches!(d, Delivery::Stored)
+        && stage::between_attempts(s.effort.progress)
+        && attempt::is_request(&s.effort.frame)
+        && r.winner.channel == s.channel
+        && r.bytes[1] % 4 == 0b10
 }
 
-// How the service ends in this slot: fulfilled by what is delivered, or by the attempt. s has the sample counted, before has not.
+// How the service ends in this slot: fulfilled by what is delivered, or by the attempt. s has the sample counted; fulfils was asked before.
 #[tactic(auto, using(std::proofs::lemmas::Bool::Decides::nat_tests))]
-pub fn end_in(w: Verdict, d: Delivery, r: Reception, before: Service, s: Service) -> Ending
-    ensures { result ≡ pick (rule.fulfils d r before) endings.Fulfilled (rule.ending_of w s) }
+pub fn end_in(fulfilled: bool, w: Verdict, s: &Service) -> Ending
+    ensures { result ≡ pick fulfilled endings.Fulfilled (rule.ending_of w s.now) }
 {
-    if fulfils(d, r, before) {
+    if fulfilled {
         return Ending::Fulfilled;
     }
     ending_of(w, s)
@@ -102,16 +87,12 @@ pub fn end_in(w: Verdict, d: Delivery, r: Reception, before: Service, s: Service
 
 // The service, or none once it has ended.
 #[tactic(auto, using(std::proofs::lemmas::Bool::Decides::nat_tests), unfolding(rules::specs::Definitions::Service::settled))]
-pub fn settled(x: Ending, s: Service) -> Service
-    ensures { result ≡ rule.settled x s }
+pub fn settle(s: &mut Service, x: Ending)
+    ensures { s.new ≡ rule.settled x s.old }
 {
     match x {
-        Ending::Going => s,
-        Ending::Sent => resting(),
-        Ending::Exhausted => resting(),
-        Ending::Aborted => resting(),
-        Ending::Rearbitrated => resting(),
-        Ending::Fulfilled => resting(),
+        Ending::Going => {}
+        _ => *s = resting(),
     }
 }
 
@@ -121,14 +102,11 @@ pub fn end_memory(m: &mut [u8; 256], x: Ending, channel: u8)
     ensures { m.new ≡ rule.memory_ended x m.old channel }
 {
     match x {
-        Ending::Going => {}
-        Ending::Sent => marks::mark_chtx(m, channel),
+        Ending::Sent | Ending::Aborted => marks::mark_chtx(m, channel),
         Ending::Exhausted => {
             marks::mark_cher(m, channel);
             marks::mark_chtx(m, channel);
         }
-        Ending::Aborted => marks::mark_chtx(m, channel),
-        Ending::Rearbitrated => {}
-        Ending::Fulfilled => {}
+        Ending::Going | Ending::Rearbitrated | Ending::Fulfilled => {}
     }
 }

@@ -13,7 +13,7 @@ use Rattle.rules.specs.declared.Event.{Event}
 pub record Refusals : Type 0 where
   pub same : (c : Controller) (e : Event) → ((step c e).refused ≡ 0 → ⊥) → (step c e).next ≡ c
   pub zero_elsewhere : (c : Controller) (e : Event) → ((step c e).refused ≡ 0 → ⊥) → (step c e).value ≡ 0
-  pub in_range_lem : (es : List Event) → in_range (after fresh es) ≡ true
+  pub always_in_range : (es : List Event) → in_range (after fresh es) ≡ true
   pub never_six : (es : List Event) (e : Event) → (step (after fresh es) e).refused ≡ 6 → ⊥
 
 -- demand 3, for every list of events from a fresh controller

@@ -6,7 +6,7 @@
 --   hears_o == what a sample is for the line and the frame under way        heard_delivery, answer_o == what another module's frame does, and for a request that it answers
 --   fulfilled_o == a stored reply ends a waiting request        diagnosis_o == the diagnosis after a slot        Replying, reply_in == an immediate reply        sampled_o, idle_o, goes_on_o == a slot        written_o == a host write
 --   next_o == the observer after an event
-use Rattle.std.specs.Prelude.{ℕ, suc, zero, ◌+◌, ◌%◌, Bool, true, false, not, List, [], ◌∷◌, ◌++◌, eqb, leb, length, get_or}
+use Rattle.std.specs.Prelude.{ℕ, suc, zero, ◌+◌, ◌%◌, Bool, true, false, not, List, [], ◌∷◌, ◌++◌, eqb, leb, length, get_or, Option, None, Some}
 use Rattle.line.specs.Bits.{pick}
 use Rattle.line.specs.Frame.{Frame}
 use Rattle.line.specs.Layout.{part_of, half_of}
@@ -27,8 +27,6 @@ use Rattle.every_run.specs.Tally.{Stand, away, between, opening, inside, answere
 use Rattle.rules.specs.declared.Mode.TheVariants.{Idle, Active, Asleep}
 use Rattle.rules.specs.declared.Activity.{Activity}
 use Rattle.rules.specs.declared.Reception.{Reception}
-use Rattle.rules.specs.declared.Choice.{Choice}
-use Rattle.rules.specs.declared.Choice.TheVariants as choice
 use Rattle.rules.specs.declared.Delivery.{Delivery}
 use Rattle.rules.specs.declared.Delivery.TheVariants.{Nothing, Stored, Overflowed, Spoiled}
 use Rattle.rules.specs.declared.Hearing.{Hearing}
@@ -215,9 +213,9 @@ reply_on sent c f levels = silent
 reply_on answers c f levels = silent
 
 -- "it and its data bytes are taken in the R/W slot (house)"
-unfoldable pub reply_from : List ℕ → ℕ → ℕ → Choice → Replying
-reply_from m high low choice.Nothing = silent
-reply_from m high low (choice.Lowest c) = replies c (reply_frame m c high low) []
+unfoldable pub reply_from : List ℕ → ℕ → ℕ → Option ℕ → Replying
+reply_from m high low None = silent
+reply_from m high low (Some c) = replies c (reply_frame m c high low) []
 
 -- r is the frame after the sample; "never in a frame that the model itself is sending"
 unfoldable pub reply_apart : Replying → ℕ → List ℕ → ℕ → ℕ → Reception → Replying

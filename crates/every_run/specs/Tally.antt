@@ -4,7 +4,7 @@
 --   Stand == where a service stands: away (none), between attempts, opening (the first level of an attempt is answered), inside (the levels driven so far), answered (the
 --     slots so far of an attempt that goes on as a reception)
 --   verdict == what a driven and a sampled level are for the attempt        counted_t, ended_t, choose_t, start_t == a slot        asked_t == a host write
-use Rattle.std.specs.Prelude.{ℕ, ◌+◌, ◌*◌, ◌/◌, ◌%◌, Bool, true, false, List, [], ◌∷◌, ◌++◌, eqb, ltb, length, get_or}
+use Rattle.std.specs.Prelude.{ℕ, ◌+◌, ◌*◌, ◌/◌, ◌%◌, Bool, true, false, List, [], ◌∷◌, ◌++◌, eqb, ltb, length, get_or, Option, None, Some}
 use Rattle.line.specs.Bits.{pick}
 use Rattle.line.specs.Frame.{Frame, size}
 use Rattle.line.specs.Layout.{part_of, half_of}
@@ -16,8 +16,6 @@ use Rattle.rules.specs.Definitions.Registers.{both, command, transmit_control, r
 use Rattle.rules.specs.Definitions.Channels.{base, cher, lowest_ready}
 use Rattle.rules.specs.Definitions.Mailbox.{sent_frame}
 use Rattle.rules.specs.Definitions.Reception.{under_way, start_ended}
-use Rattle.rules.specs.declared.Choice.{Choice}
-use Rattle.rules.specs.declared.Choice.TheVariants.{Nothing, Lowest}
 use Rattle.rules.specs.declared.Reception.{Reception}
 
 pub data Stand : Type 0 where
@@ -183,9 +181,9 @@ unfoldable pub chosen_t : List ℕ → ℕ → Tally
 chosen_t m c =
     with_setting (with_frame (with_channel (with_stand none between) c) (sent_frame m c)) (retry_setting (get_or m transmit_control 0))
 
-unfoldable pub choice_t : List ℕ → Choice → Tally
-choice_t m Nothing = none
-choice_t m (Lowest c) = chosen_t m c
+unfoldable pub choice_t : List ℕ → Option ℕ → Tally
+choice_t m None = none
+choice_t m (Some c) = chosen_t m c
 
 -- "if active with no frame under way and no service"
 unfoldable pub choose_in : Stand → Tally → List ℕ → ℕ → Bool → Reception → Tally

@@ -4,88 +4,54 @@
 #![tactic(auto)]
 
 mod byte_remainders;
-mod nibble_remainders;
 
-ghost use Rattle.std.specs.Prelude.{◌≡◌, ◌∷◌, ◌<◌, ◌%◌, ◌^◌};
+ghost use Rattle.std.specs.Prelude.{◌≡◌, ◌∷◌, ◌≤◌, ◌<◌, ◌%◌, ◌^◌};
 ghost use Rattle.line.specs.Bits as bits;
 ghost use Rattle.line.specs.Check as check;
 ghost use Rattle.line.specs.Frame as frame;
-ghost use Rattle.frame_check.specs.Tables as rule;
 
 use byte_remainders::BYTE_REMAINDERS;
-use nibble_remainders::NIBBLE_REMAINDERS;
 
 // The remainder that division starts from, and what its complement is taken from.
 pub const ALL_ONES: u16 = 0x7FFF;
 
-// ---- a nibble
-
-// The table of the nibbles, with its rule.
+// The remainder of a byte, from 0.
 #[tactic(auto, using(std::proofs::lemmas::Bool::Decides::nat_tests, line::proofs::Tables::at), unfolding(line::specs::Check::remainder, line::specs::Check::check_bit, line::specs::Check::polynomial, line::specs::Bits::bits, line::proofs::Tables::values))]
-fn nibble_table() -> [u16; 16]
-    ensures { rule.Tabled 4 result }
+fn byte_entry(byte: u8) -> u16
+    ensures { result ≡ check.remainder 0 (bits.bits 8 byte) }
 {
-    NIBBLE_REMAINDERS
+    BYTE_REMAINDERS[byte as usize]
 }
 
-// The remainder of a nibble, from 0. The low four bits of what is given are taken.
-#[tactic(auto, using(std::proofs::lemmas::Bool::Decides::nat_tests))]
-fn nibble_entry(nibble: u8) -> u16
-    ensures { result ≡ check.remainder 0 (bits.bits 4 (nibble % 16)) }
+// The remainder once the low WIDTH bits of a number are divided.
+#[tactic(auto, using(std::proofs::lemmas::Bool::Decides::nat_tests, crate::proofs::Widths::entry_below, crate::proofs::Widths::by_entry))]
+fn divided<const WIDTH: u16>(remainder: u16, number: u8) -> u16
+    requires { (WIDTH ≤ 8) × (remainder < 2 ^ 15) }
+    ensures { result ≡ check.remainder remainder (bits.bits WIDTH number) }
 {
-    let table = nibble_table();
-    table[(nibble % 16) as usize]
+    let stay = 15 - WIDTH;
+    let leaving = remainder >> stay;
+    let sum = (leaving ^ number as u16) % (1 << WIDTH);
+    remainder % (1 << stay) << WIDTH ^ byte_entry(sum as u8)
 }
 
 // The remainder once the four bits of a nibble are divided. A remainder has fifteen bits: of a larger number the low fifteen are taken.
-#[tactic(auto, using(std::proofs::lemmas::Bool::Decides::nat_tests, line::proofs::Laws::bits_mod, line::proofs::Division::divided))]
+#[tactic(auto, using(std::proofs::lemmas::Bool::Decides::nat_tests))]
 pub fn nibble_divided(remainder: u16, nibble: u8) -> u16
     ensures { result ≡ check.remainder (remainder % 2 ^ 15) (bits.bits 4 nibble) }
 {
-    let leaving = (remainder / 2048 % 16) as u8;
-    remainder % 2048 * 16 ^ nibble_entry(leaving ^ nibble)
-}
-
-// ---- bytes, by a table that is copied once for all of them
-
-// The table of the bytes, with its rule.
-#[tactic(auto, using(std::proofs::lemmas::Bool::Decides::nat_tests, line::proofs::Tables::at), unfolding(line::specs::Check::remainder, line::specs::Check::check_bit, line::specs::Check::polynomial, line::specs::Bits::bits, line::proofs::Tables::values))]
-fn byte_table() -> [u16; 256]
-    ensures { rule.Tabled 8 result }
-{
-    BYTE_REMAINDERS
-}
-
-// The remainder of a byte, from 0.
-#[tactic(auto, using(std::proofs::lemmas::Bool::Decides::nat_tests))]
-fn byte_entry(table: &[u16; 256], byte: u8) -> u16
-    requires { rule.Tabled 8 table.now }
-    ensures { result ≡ check.remainder 0 (bits.bits 8 byte) }
-{
-    table[byte as usize]
-}
-
-// The remainder once the eight bits of a byte are divided.
-#[tactic(auto, using(std::proofs::lemmas::Bool::Decides::nat_tests, line::proofs::Division::divided))]
-fn byte_divided(table: &[u16; 256], remainder: u16, byte: u8) -> u16
-    requires { (rule.Tabled 8 table.now) × (remainder < 2 ^ 15) }
-    ensures { result ≡ check.remainder remainder (bits.bits 8 byte) }
-{
-    let leaving = (remainder / 128) as u8;
-    remainder % 128 * 256 ^ byte_entry(table, leaving ^ byte)
+    divided::<4>(remainder % 32768, nibble)
 }
 
 // The remainder once all bytes of a slice are divided.
 #[tactic(auto, using(std::proofs::lemmas::Bool::Decides::nat_tests, line::proofs::Laws::remainder_below, line::proofs::Laws::bytes_next, line::proofs::Laws::bytes_end))]
-fn bytes_divided(table: &[u16; 256], remainder: u16, bytes: &[u8]) -> u16
-    requires { (rule.Tabled 8 table.now) × (remainder < 2 ^ 15) }
+fn bytes_divided(remainder: u16, bytes: &[u8]) -> u16
+    requires { remainder < 2 ^ 15 }
     ensures { result ≡ check.remainder remainder (frame.byte_bits bytes.now) }
 {
     let mut r = remainder;
-    let mut i = 0;
-    while i < bytes.len() {
-        r = byte_divided(table, r, bytes[i]);
-        i += 1;
+    for byte in bytes {
+        r = divided::<8>(r, *byte);
     }
     r
 }
@@ -96,8 +62,7 @@ pub fn check_of(bytes: &[u8]) -> u16
     ensures value { result ≡ check.check (frame.byte_bits bytes.now) }
     ensures range { result < 32768 }
 {
-    let table = byte_table();
-    ALL_ONES - bytes_divided(&table, ALL_ONES, bytes)
+    ALL_ONES - bytes_divided(ALL_ONES, bytes)
 }
 
 // The check over two bytes and a row of bytes behind them.
@@ -105,8 +70,7 @@ pub fn check_of(bytes: &[u8]) -> u16
 pub fn check_behind(first: u8, second: u8, bytes: &[u8]) -> u16
     ensures { result ≡ check.check (frame.byte_bits (first ∷ second ∷ bytes.now)) }
 {
-    let table = byte_table();
-    let one = byte_divided(&table, ALL_ONES, first);
-    let two = byte_divided(&table, one, second);
-    ALL_ONES - bytes_divided(&table, two, bytes)
+    let one = divided::<8>(ALL_ONES, first);
+    let two = divided::<8>(one, second);
+    ALL_ONES - bytes_divided(two, bytes)
 }

@@ -1,4 +1,5 @@
 -- What each answer of codec and player comes to in C's form. `a` is the answer as the callee gave it, `e` as the rules define it.
+use Rattle.std.specs.Prelude.{Option, Some, None}
 use Prim.Native.Nat.{ℕ}
 use mathlib.Core.Path.{◌≡◌, refl}
 use mathlib.Core.Bool.{Bool, true, false}
@@ -7,20 +8,15 @@ use mir.Val.{bool_byte}
 use Rattle.codec.specs.Answer.{number}
 use Rattle.codec.specs.declared.Refusal.{Refusal}
 use Rattle.codec.specs.declared.Head.{Head}
-use Rattle.codec.specs.declared.Encoded.{Encoded}
-use Rattle.codec.specs.declared.Encoded.TheVariants.{Slots, Refused as NotEncoded}
-use Rattle.codec.specs.declared.Decoded.{Decoded}
-use Rattle.codec.specs.declared.Decoded.TheVariants.{Accepted, Refused as NotDecoded}
+use Rattle.std.specs.Prelude.{Result, Ok, Err}
 use Rattle.bench_record.specs.Record.{number as play_number}
-use Rattle.bench_record.specs.declared.Played.{Played}
-use Rattle.bench_record.specs.declared.Played.TheVariants.{Listed, Short}
 use Rattle.frapmast.specs.Calls.{encode_number, slot_count, decode_number, flag, head, listing_length}
 
-pub encoded_slots : {a e : Encoded} {n : ℕ} → a ≡ Slots n → a ≡ e → (0 ≡ encode_number e) × (n ≡ slot_count e)
+pub encoded_slots : {a e : Result ℕ Refusal} {n : ℕ} → a ≡ Ok n → a ≡ e → (0 ≡ encode_number e) × (n ≡ slot_count e)
 unfolding encode_number slot_count
 encoded_slots p q = (rw (← q, p), rw (← q, p))
 
-pub encoded_not : {a e : Encoded} {r : Refusal} {k : ℕ} → a ≡ NotEncoded r → a ≡ e → k ≡ number r → (k ≡ encode_number e) × (0 ≡ slot_count e)
+pub encoded_not : {a e : Result ℕ Refusal} {r : Refusal} {k : ℕ} → a ≡ Err r → a ≡ e → k ≡ number r → (k ≡ encode_number e) × (0 ≡ slot_count e)
 unfolding encode_number slot_count
 encoded_not p q k = (rw (← q, p) k, rw (← q, p))
 
@@ -30,19 +26,19 @@ unfolding flag
 flag_is true = refl
 flag_is false = refl
 
-pub decoded_head : {a e : Decoded} {h : Head} → a ≡ Accepted h → a ≡ e
+pub decoded_head : {a e : Result Head Refusal} {h : Head} → a ≡ Ok h → a ≡ e
     → (0 ≡ decode_number e) × (h.identifier ∷ h.command ∷ h.count ∷ bool_byte h.acknowledge ∷ [] ≡ head e)
 unfolding decode_number head
 decoded_head {h = h} p q = (rw (← q, p), rw (← q, p, flag_is h.acknowledge))
 
-pub decoded_not : {a e : Decoded} {r : Refusal} {k : ℕ} → a ≡ NotDecoded r → a ≡ e → k ≡ number r → (k ≡ decode_number e) × (0 ∷ 0 ∷ 0 ∷ 0 ∷ [] ≡ head e)
+pub decoded_not : {a e : Result Head Refusal} {r : Refusal} {k : ℕ} → a ≡ Err r → a ≡ e → k ≡ number r → (k ≡ decode_number e) × (0 ∷ 0 ∷ 0 ∷ 0 ∷ [] ≡ head e)
 unfolding decode_number head
 decoded_not p q k = (rw (← q, p) k, rw (← q, p))
 
-pub played_listed : {a e : Played} {n : ℕ} → a ≡ Listed n → a ≡ e → (0 ≡ play_number e) × (n ≡ listing_length e)
+pub played_listed : {a e : Option ℕ} {n : ℕ} → a ≡ Some n → a ≡ e → (0 ≡ play_number e) × (n ≡ listing_length e)
 unfolding play_number listing_length
 played_listed p q = (rw (← q, p), rw (← q, p))
 
-pub played_short : {a e : Played} → a ≡ Short → a ≡ e → (13 ≡ play_number e) × (0 ≡ listing_length e)
+pub played_short : {a e : Option ℕ} → a ≡ None → a ≡ e → (13 ≡ play_number e) × (0 ≡ listing_length e)
 unfolding play_number listing_length
 played_short p q = (rw (← q, p), rw (← q, p))

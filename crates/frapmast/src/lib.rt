@@ -12,8 +12,7 @@ ghost use Rattle.row.specs.Row as row_rule;
 ghost use Rattle.within.specs.Lent as lent;
 ghost use Rattle.frapmast.specs.Calls as rule;
 
-use bench_record::Played;
-use codec::{Decoded, Encoded};
+use rules::Event;
 
 // The frame's slots, into lent room, and how many; or the refusal's number.
 #[unsafe(no_mangle)]
@@ -31,13 +30,13 @@ pub extern "C" fn frapmast_encode(
     ensures room { room.new ≡ rule.room_encoded room.old (given identifier command bytes.now acknowledge) }
 {
     match encoder::encode(identifier, command, bytes, acknowledge, room) {
-        Encoded::Slots(n) => {
+        Ok(n) => {
             *count = n;
             0
         }
-        Encoded::Refused(why) => {
+        Err(why) => {
             *count = 0;
-            codec::number(why)
+            u8::from(why)
         }
     }
 }
@@ -51,7 +50,7 @@ pub extern "C" fn frapmast_decode(slots: &[u8], room: &mut [u8], head: &mut [u16
     ensures room { room.new ≡ rule.room_decoded room.old slots.now }
 {
     match decoder::decode(slots, room) {
-        Decoded::Accepted(h) => {
+        Ok(h) => {
             *head = [
                 h.identifier,
                 h.command as u16,
@@ -60,9 +59,9 @@ pub extern "C" fn frapmast_decode(slots: &[u8], room: &mut [u8], head: &mut [u16
             ];
             0
         }
-        Decoded::Refused(why) => {
+        Err(why) => {
             *head = [0, 0, 0, 0];
-            codec::number(why)
+            u8::from(why)
         }
     }
 }
@@ -76,11 +75,11 @@ pub extern "C" fn frapmast_play(session: &[u8], room: &mut [u8], length: &mut us
     ensures room { room.new ≡ rule.room_played room.old session.now }
 {
     match player::play(session, room) {
-        Played::Listed(n) => {
+        Some(n) => {
             *length = n;
             0
         }
-        Played::Short => {
+        None => {
             *length = 0;
             13
         }
@@ -100,19 +99,18 @@ pub extern "C" fn frapmast_fresh(map: &mut [u8; 256], row: &mut [u8; row::ROW])
 
 // Pin reset: the refusal's number or 0.
 #[unsafe(no_mangle)]
-#[tactic(auto, using(std::proofs::lemmas::Bool::Decides::nat_tests), unfolding(within::specs::Lent::answer))]
+#[tactic(auto, using(std::proofs::lemmas::Bool::Decides::nat_tests), unfolding(rules::specs::Definitions::Answers::lent))]
 pub extern "C" fn frapmast_reset(map: &mut [u8; 256], row: &mut [u8; row::ROW]) -> u8
     ensures answer { result ≡ (run.step (answers.controller map.old (row_rule.core_of row.old)) event.Reset).refused }
     ensures state { answers.controller map.new (row_rule.core_of row.new) ≡ (run.step (answers.controller map.old (row_rule.core_of row.old)) event.Reset).next }
     ensures kept { lent.Unchanged result map.old row.old map.new row.new }
 {
-    let a = within::pin_reset(map, row);
-    a.refused
+    answers::refused_by(within::call(map, row, Event::Reset))
 }
 
 // A host write: the refusal's number or 0.
 #[unsafe(no_mangle)]
-#[tactic(auto, using(std::proofs::lemmas::Bool::Decides::nat_tests), unfolding(within::specs::Lent::answer))]
+#[tactic(auto, using(std::proofs::lemmas::Bool::Decides::nat_tests), unfolding(rules::specs::Definitions::Answers::lent))]
 pub extern "C" fn frapmast_write(
     map: &mut [u8; 256],
     row: &mut [u8; row::ROW],
@@ -123,13 +121,12 @@ pub extern "C" fn frapmast_write(
     ensures state { answers.controller map.new (row_rule.core_of row.new) ≡ (run.step (answers.controller map.old (row_rule.core_of row.old)) (event.Write address value)).next }
     ensures kept { lent.Unchanged result map.old row.old map.new row.new }
 {
-    let a = within::host_write(map, row, address, value);
-    a.refused
+    answers::refused_by(within::call(map, row, Event::Write(address, value)))
 }
 
 // A host read: the refusal's number or 0, and the byte read or 0.
 #[unsafe(no_mangle)]
-#[tactic(auto, using(std::proofs::lemmas::Bool::Decides::nat_tests), unfolding(within::specs::Lent::answer))]
+#[tactic(auto, using(std::proofs::lemmas::Bool::Decides::nat_tests), unfolding(rules::specs::Definitions::Answers::lent))]
 pub extern "C" fn frapmast_read(
     map: &[u8; 256],
     row: &[u8; row::ROW],
@@ -140,13 +137,13 @@ pub extern "C" fn frapmast_read(
     ensures value { value.new ≡ (run.step (answers.controller map.now (row_rule.core_of row.now)) (event.Read address)).value }
 {
     let a = within::host_read(map, row, address);
-    *value = a.value;
-    a.refused
+    *value = answers::value_of(a);
+    answers::refused_by(a)
 }
 
 // A slot: the refusal's number or 0, and the level of TXD for the next slot or 0.
 #[unsafe(no_mangle)]
-#[tactic(auto, using(std::proofs::lemmas::Bool::Decides::nat_tests), unfolding(within::specs::Lent::answer))]
+#[tactic(auto, using(std::proofs::lemmas::Bool::Decides::nat_tests), unfolding(rules::specs::Definitions::Answers::lent))]
 pub extern "C" fn frapmast_slot(
     map: &mut [u8; 256],
     row: &mut [u8; row::ROW],
@@ -158,9 +155,9 @@ pub extern "C" fn frapmast_slot(
     ensures state { answers.controller map.new (row_rule.core_of row.new) ≡ (run.step (answers.controller map.old (row_rule.core_of row.old)) (event.Slot levels)).next }
     ensures kept { lent.Unchanged result map.old row.old map.new row.new }
 {
-    let a = within::slot(map, row, levels);
-    *level = a.value;
-    a.refused
+    let a = within::call(map, row, Event::Slot(levels));
+    *level = answers::value_of(a);
+    answers::refused_by(a)
 }
 
 // The interrupt line.

@@ -22,9 +22,10 @@ pub fn unsettled() -> Line
 pub fn after_good() -> Line
     ensures { result ≡ rule.after_good }
 {
-    let mut t = unsettled();
-    t.good = true;
-    t
+    Line {
+        good: true,
+        ..unsettled()
+    }
 }
 
 // Whether the line is free: four recessive slots in a row after a good frame, else twelve.
@@ -43,25 +44,17 @@ pub fn free(l: Line) -> bool
 pub fn takes_start(l: Line) -> bool
     ensures { result ≡ rule.takes_start l }
 {
-    if l.good {
-        return true;
-    }
-    free(l)
+    l.good || free(l)
 }
 
 // A slot with no frame: a 1 counts, a 0 starts the count again.
 #[tactic(auto, using(std::proofs::lemmas::Bool::Decides::nat_tests), unfolding(rules::specs::Definitions::Reception::counted))]
-pub fn counted(l: Line, v: u8) -> Line
-    ensures { result ≡ rule.counted l v }
+pub fn count(l: &mut Line, v: u8)
+    ensures { l.new ≡ rule.counted l.old v }
 {
-    let mut t = l;
     if v == 0 {
-        t.count = 0;
-        return t;
+        l.count = 0;
+    } else if l.count < 12 {
+        l.count += 1;
     }
-    if l.count < 12 {
-        t.count = l.count + 1;
-        return t;
-    }
-    t
 }

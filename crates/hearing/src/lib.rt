@@ -14,7 +14,7 @@ use rules::{Hearing, Line, Phase, Reception, Winner};
 fn hear_start(at: u8, v: u8) -> Hearing
     ensures { result ≡ rule.hear_start at v }
 {
-    if v == line::start_level(at as u16) {
+    if v == line::start_level(u16::from(at)) {
         return Hearing::Follows;
     }
     Hearing::Fault(Code::CV)
@@ -30,19 +30,14 @@ pub fn fits(w: Winner, n: u8) -> bool
 
 // Whether the model drives the acknowledge: matched and fitting, RAK 1, DRAK 0. The check is right where the acknowledge is reached.
 #[tactic(auto, using(std::proofs::lemmas::Bool::Decides::nat_tests), unfolding(rules::specs::Definitions::Hearing::acknowledges))]
-fn acknowledges(r: Reception) -> bool
-    ensures { result ≡ rule.acknowledges r }
+fn acknowledges(r: &Reception) -> bool
+    ensures { result ≡ rule.acknowledges r.now }
 {
     let w = r.winner;
-    let b = r.bytes;
-    let asked = channels::acknowledge_asked(b[1]);
-    if w.matched {
-        if fits(w, reception::data_count(r.nibbles)) {
-            return (asked) & (!w.no_acknowledge);
-        }
-        return false;
-    }
-    false
+    w.matched
+        && fits(w, reception::data_count(r.nibbles))
+        && channels::acknowledge_asked(r.bytes[1])
+        && !w.no_acknowledge
 }
 
 // Whether an acknowledge is FV: a pattern other than 10 and 11, 10 with RAK 0, 11 where the model drove 10.
@@ -61,15 +56,13 @@ fn acknowledge_wrong(asked: bool, drove: bool, first: u8, second: u8) -> bool
 
 // The acknowledge is judged in its second slot.
 #[tactic(auto, using(std::proofs::lemmas::Bool::Decides::nat_tests), unfolding(rules::specs::Definitions::Hearing::hear_acknowledge))]
-fn hear_acknowledge(r: Reception, v: u8) -> Hearing
-    ensures { result ≡ rule.hear_acknowledge r v }
+fn hear_acknowledge(r: &Reception, v: u8) -> Hearing
+    ensures { result ≡ rule.hear_acknowledge r.now v }
 {
-    let p = r.place;
-    if p.at == 0 {
+    if r.place.at == 0 {
         return Hearing::Follows;
     }
-    let b = r.bytes;
-    let asked = channels::acknowledge_asked(b[1]);
+    let asked = channels::acknowledge_asked(r.bytes[1]);
     if acknowledge_wrong(asked, acknowledges(r), r.bits % 2, v) {
         return Hearing::Fault(Code::FV);
     }
@@ -94,17 +87,16 @@ fn hear_end(at: u8, v: u8) -> Hearing
 
 // What a sample is while a frame is under way. `longest` is the most data bytes.
 #[tactic(auto, using(std::proofs::lemmas::Bool::Decides::nat_tests), unfolding(rules::specs::Definitions::Hearing::hear_frame, rules::specs::Definitions::Hearing::hear_in))]
-pub fn hear_frame(r: Reception, longest: u8, v: u8) -> Hearing
-    ensures { result ≡ rule.hear_frame r longest v }
+#[inline(always)]
+pub fn hear_frame(r: &Reception, longest: u8, v: u8) -> Hearing
+    ensures { result ≡ rule.hear_frame r.now longest v }
 {
-    let p = r.place;
-    let phase = p.phase;
-    match phase {
+    match r.place.phase {
         Phase::Quiet => Hearing::Silent,
-        Phase::Start => hear_start(p.at, v),
+        Phase::Start => hear_start(r.place.at, v),
         Phase::Body => body::hear_body(r, longest, v),
         Phase::Acknowledge => hear_acknowledge(r, v),
-        Phase::End => hear_end(p.at, v),
+        Phase::End => hear_end(r.place.at, v),
     }
 }
 
@@ -113,11 +105,8 @@ pub fn hear_frame(r: Reception, longest: u8, v: u8) -> Hearing
 pub fn hear_quiet(l: Line, v: u8) -> Hearing
     ensures { result ≡ rule.hear_quiet l v }
 {
-    if v == 0 {
-        if free_line::takes_start(l) {
-            return Hearing::Follows;
-        }
-        return Hearing::Silent;
+    if v == 0 && free_line::takes_start(l) {
+        return Hearing::Follows;
     }
     Hearing::Silent
 }
@@ -126,13 +115,10 @@ pub fn hear_quiet(l: Line, v: u8) -> Hearing
 
 // The acknowledge: first slot recessive, second dominant where the model acknowledges.
 #[tactic(auto, using(std::proofs::lemmas::Bool::Decides::nat_tests), unfolding(rules::specs::Definitions::Hearing::acknowledge_level))]
-fn acknowledge_level(at: u8, r: Reception) -> u8
-    ensures { result ≡ rule.acknowledge_level at r }
+fn acknowledge_level(at: u8, r: &Reception) -> u8
+    ensures { result ≡ rule.acknowledge_level at r.now }
 {
-    if at == 0 {
-        return 1;
-    }
-    if acknowledges(r) {
+    if at != 0 && acknowledges(r) {
         return 0;
     }
     1
@@ -140,16 +126,11 @@ fn acknowledge_level(at: u8, r: Reception) -> u8
 
 // The level that a receiver drives: dominant only in the second acknowledge slot.
 #[tactic(auto, using(std::proofs::lemmas::Bool::Decides::nat_tests), unfolding(rules::specs::Definitions::Hearing::receiver_level, rules::specs::Definitions::Hearing::receiver_in))]
-pub fn receiver_level(r: Reception) -> u8
-    ensures { result ≡ rule.receiver_level r }
+pub fn receiver_level(r: &Reception) -> u8
+    ensures { result ≡ rule.receiver_level r.now }
 {
-    let p = r.place;
-    let phase = p.phase;
-    match phase {
-        Phase::Quiet => 1,
-        Phase::Start => 1,
-        Phase::Body => 1,
-        Phase::Acknowledge => acknowledge_level(p.at, r),
-        Phase::End => 1,
+    match r.place.phase {
+        Phase::Acknowledge => acknowledge_level(r.place.at, r),
+        Phase::Quiet | Phase::Start | Phase::Body | Phase::End => 1,
     }
 }

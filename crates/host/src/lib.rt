@@ -1,92 +1,95 @@
 // Pin reset and host write over a lent memory map, and their refusals (01, Memory map; Numbers refused).
 #![tactic(auto)]
 
-ghost use Rattle.std.specs.Prelude.{◌≡◌, ◌%◌};
+ghost use Rattle.std.specs.Prelude.{◌≡◌, true};
 ghost use Rattle.rules.specs.Definitions.Host as rule;
+ghost use Rattle.rules.specs.Definitions.State as state_rule;
 ghost use Rattle.rules.specs.Definitions.Run as run;
 ghost use Rattle.rules.specs.Definitions.Answers as answers;
+ghost use Rattle.host.specs.Plain as plain_rule;
 
 use registers::Map;
-use rules::{Core, CoreOutcome, Refusal, Reply};
+use rules::{Core, Refusal};
 
 // Pin reset: 6.
-#[tactic(auto, using(std::proofs::lemmas::Bool::Decides::nat_tests), unfolding(rules::specs::Definitions::Answers::answer_lent, rules::specs::Definitions::Answers::number, rules::specs::Definitions::Answers::refused_by, rules::specs::Definitions::Answers::value_of, rules::specs::Definitions::Run::pin_reset, rules::specs::Definitions::Run::accept, rules::specs::Definitions::Run::refuse, rules::specs::Definitions::Run::unless_refused, rules::specs::Definitions::Host::reset_all))]
-pub fn pin_reset_on(m: &mut [u8; 256], k: Core) -> CoreOutcome
-    ensures { answers.answer_lent result m.new ≡ run.pin_reset (answers.controller m.old k) }
+#[tactic(auto, using(std::proofs::lemmas::Bool::Decides::nat_tests), unfolding(rules::specs::Definitions::Answers::done, rules::specs::Definitions::Answers::number, rules::specs::Definitions::Answers::refused_by, rules::specs::Definitions::Run::pin_reset, rules::specs::Definitions::Run::accept, rules::specs::Definitions::Run::refuse, rules::specs::Definitions::Run::unless_refused, rules::specs::Definitions::Host::reset_all))]
+pub fn pin_reset_on(m: &mut [u8; 256], k: &mut Core) -> Result<(), Refusal>
+    ensures { answers.done result (answers.controller m.new k.new) ≡ run.pin_reset (answers.controller m.old k.old) }
 {
-    if ranges::in_range(m, k) {
-        let t = command::reset(m);
-        return CoreOutcome {
-            reply: Reply::Accepted(0),
-            next: t,
-        };
+    if !ranges::in_range(m, k) {
+        return Err(Refusal::Range);
     }
-    CoreOutcome {
-        reply: Reply::Refused(Refusal::Range),
-        next: k,
-    }
+    command::reset(m, k);
+    Ok(()) // the reset is made
 }
 
-// 2, 3, 8, once the access is open.
-#[tactic(auto, using(std::proofs::lemmas::Bool::Decides::nat_tests), unfolding(rules::specs::Definitions::Answers::answer_lent, rules::specs::Definitions::Answers::number, rules::specs::Definitions::Answers::refused_by, rules::specs::Definitions::Answers::value_of, rules::specs::Definitions::Host::write_refusals, rules::specs::Definitions::Host::host_written, rules::specs::Definitions::Host::reset_all, rules::specs::Definitions::Run::accept, rules::specs::Definitions::Run::refuse, rules::specs::Definitions::Run::unless_refused))]
-fn write_on(m: &mut [u8; 256], k: Core, address: u16, value: u16) -> CoreOutcome
-    ensures { answers.answer_lent result m.new ≡ run.unless_refused (answers.controller m.old k) (rule.write_refusals address value) (run.accept 0 (rule.host_written (answers.controller m.old k) address (value % 256))) }
+// 2, 3, 8.
+#[tactic(auto, using(std::proofs::lemmas::Bool::Decides::nat_tests), unfolding(rules::specs::Definitions::Host::write_refusals, rules::specs::Definitions::Run::first_due))]
+fn writable(address: u16, value: u16) -> Result<(), Refusal>
+    ensures { result ≡ run.first_due (rule.write_refusals address value) }
 {
     let a = address as usize;
     if 255 < value {
-        return CoreOutcome {
-            reply: Reply::Refused(Refusal::Value),
-            next: k,
-        };
+        return Err(Refusal::Value);
     }
-    if Map::read_only(a) {
-        return CoreOutcome {
-            reply: Reply::Refused(Refusal::Unwritable),
-            next: k,
-        };
+    if Map::read_only(a) || Map::reserved(a) {
+        return Err(Refusal::Unwritable);
     }
-    if Map::reserved(a) {
-        return CoreOutcome {
-            reply: Reply::Refused(Refusal::Unwritable),
-            next: k,
-        };
+    if Map::fixed_bits(a, (value % 256) as u8) {
+        return Ok(());
     }
-    let v = (value % 256) as u8;
-    if Map::fixed_bits(a, v) {
-        let t = command::host_written(m, k, a, v);
-        return CoreOutcome {
-            reply: Reply::Accepted(0), // only here the map changes
-            next: t,
-        };
+    Err(Refusal::FixedBits)
+}
+
+// A byte of a channel or the mailbox, with no service and no idle that waits: a write only keeps it.
+#[tactic(auto, using(std::proofs::lemmas::Bool::Decides::nat_tests), unfolding(crate::specs::Plain::plain))]
+fn plain(k: &Core, address: u16) -> bool
+    ensures { result ≡ plain_rule.plain k.now address }
+{
+    16 <= address && !state::serving(&k.service) && !k.activity.waiting
+}
+
+// An accepted write.
+#[tactic(auto, using(std::proofs::lemmas::Bool::Decides::nat_tests, crate::proofs::Kept::kept_alone))]
+fn write(m: &mut [u8; 256], k: &mut Core, address: u16, v: u8)
+    ensures { answers.controller m.new k.new ≡ rule.host_written (answers.controller m.old k.old) address v }
+{
+    if plain(k, address) {
+        m[(address % 256) as usize] = v;
+        return;
     }
-    CoreOutcome {
-        reply: Reply::Refused(Refusal::FixedBits),
-        next: k,
-    }
+    command::host_written(m, k, address as usize, v);
+}
+
+// A host write to a state in its ranges: 7, 1, 2, 3, 8.
+#[tactic(auto, using(std::proofs::lemmas::Bool::Decides::nat_tests, access::proofs::Opened::opened, access::proofs::Opened::refused_open, rules::proofs::Refusals::accepted, rules::proofs::Refusals::refused_first, rules::proofs::Refusals::refused_second), unfolding(rules::specs::Definitions::Answers::done, rules::specs::Definitions::Answers::refused_by, rules::specs::Definitions::Run::host_write, rules::specs::Definitions::Run::accept, rules::specs::Definitions::Run::refuse))]
+pub fn host_write_in_range(
+    m: &mut [u8; 256],
+    k: &mut Core,
+    address: u16,
+    value: u16,
+) -> Result<(), Refusal>
+    requires range { state_rule.in_range (answers.controller m.old k.old) ≡ true }
+    ensures { answers.done result (answers.controller m.new k.new) ≡ run.host_write (answers.controller m.old k.old) address value }
+{
+    access::open(k, address)?;
+    writable(address, value)?;
+    write(m, k, address, (value % 256) as u8);
+    Ok(()) // only here the map changes
 }
 
 // A host write: 6, 7, 1, 2, 3, 8.
-#[tactic(auto, using(std::proofs::lemmas::Bool::Decides::nat_tests), unfolding(rules::specs::Definitions::Answers::answer_lent, rules::specs::Definitions::Answers::number, rules::specs::Definitions::Answers::refused_by, rules::specs::Definitions::Answers::value_of, rules::specs::Definitions::Run::host_write, rules::specs::Definitions::Run::accept, rules::specs::Definitions::Run::refuse, rules::specs::Definitions::Run::unless_refused, rules::specs::Definitions::Host::access_refusals, rules::specs::Definitions::Host::write_refusals))]
-pub fn host_write_on(m: &mut [u8; 256], k: Core, address: u16, value: u16) -> CoreOutcome
-    ensures { answers.answer_lent result m.new ≡ run.host_write (answers.controller m.old k) address value }
+#[tactic(auto, using(std::proofs::lemmas::Bool::Decides::nat_tests), unfolding(rules::specs::Definitions::Answers::done, rules::specs::Definitions::Answers::number, rules::specs::Definitions::Answers::refused_by, rules::specs::Definitions::Run::host_write, rules::specs::Definitions::Run::refuse, rules::specs::Definitions::Run::unless_refused, rules::specs::Definitions::Host::access_refusals))]
+pub fn host_write_on(
+    m: &mut [u8; 256],
+    k: &mut Core,
+    address: u16,
+    value: u16,
+) -> Result<(), Refusal>
+    ensures { answers.done result (answers.controller m.new k.new) ≡ run.host_write (answers.controller m.old k.old) address value }
 {
-    if ranges::in_range(m, k) {
-        if modes::is_asleep(k.activity) {
-            return CoreOutcome {
-                reply: Reply::Refused(Refusal::Asleep),
-                next: k,
-            };
-        }
-        if 255 < address {
-            return CoreOutcome {
-                reply: Reply::Refused(Refusal::Address),
-                next: k,
-            };
-        }
-        return write_on(m, k, address, value);
+    if !ranges::in_range(m, k) {
+        return Err(Refusal::Range);
     }
-    CoreOutcome {
-        reply: Reply::Refused(Refusal::Range),
-        next: k,
-    }
+    host_write_in_range(m, k, address, value)
 }

@@ -1,54 +1,47 @@
 // Host read over a lent memory map: what each register shows, and the refusals (01, Memory map; Numbers refused).
 #![tactic(auto)]
 
-ghost use Rattle.std.specs.Prelude.{◌≡◌};
+ghost use Rattle.std.specs.Prelude.{◌≡◌, true};
 ghost use Rattle.rules.specs.Definitions.Host as rule;
+ghost use Rattle.rules.specs.Definitions.State as state_rule;
 ghost use Rattle.rules.specs.Definitions.Run as run;
 ghost use Rattle.rules.specs.Definitions.Answers as answers;
 
 use registers::Map;
-use rules::{Core, CoreOutcome, Refusal, Reply};
+use rules::{Core, Refusal};
 
 // ---- an accepted read
 
 #[tactic(auto, using(std::proofs::lemmas::Bool::Decides::nat_tests), unfolding(rules::specs::Definitions::Host::line_status_of))]
-fn line_status_of(k: Core) -> u8
-    ensures { result ≡ rule.line_status_of k }
+fn line_status_of(k: &Core) -> u8
+    ensures { result ≡ rule.line_status_of k.now }
 {
-    let r = k.reception;
     status::line_status(
         modes::is_asleep(k.activity),
         modes::is_idle(k.activity),
-        k.diagnosis,
-        state::serving(k.service),
-        place::under_way(r.place),
+        &k.diagnosis,
+        state::serving(&k.service),
+        place::under_way(k.reception.place),
     )
 }
 
 // The byte of a register that the controller writes.
 #[tactic(auto, using(std::proofs::lemmas::Bool::Decides::nat_tests), unfolding(rules::specs::Definitions::Host::status_read))]
-fn status_read(k: Core, address: usize) -> u8
-    ensures { result ≡ rule.status_read k address }
+fn status_read(k: &Core, address: usize) -> u8
+    ensures { result ≡ rule.status_read k.now address }
 {
-    let x = k.report;
-    if address == Map::LINE_STATUS {
-        return line_status_of(k);
+    match address {
+        Map::LINE_STATUS => line_status_of(k),
+        Map::TRANSMISSION_STATUS => status::retries_byte(k.report.sending),
+        Map::LAST_MESSAGE_STATUS => status::retries_byte(k.report.message),
+        Map::LAST_ERROR_STATUS => k.report.error,
+        _ => status::interrupt_status(k.report.flags),
     }
-    if address == Map::TRANSMISSION_STATUS {
-        return status::retries_byte(x.sending);
-    }
-    if address == Map::LAST_MESSAGE_STATUS {
-        return status::retries_byte(x.message);
-    }
-    if address == Map::LAST_ERROR_STATUS {
-        return x.error;
-    }
-    status::interrupt_status(x.flags)
 }
 
 #[tactic(auto, using(std::proofs::lemmas::Bool::Decides::nat_tests), unfolding(rules::specs::Definitions::Host::byte_read))]
-fn byte_read(m: &[u8; 256], k: Core, address: usize) -> u8
-    ensures { result ≡ rule.byte_read (answers.controller m.now k) address }
+fn byte_read(m: &[u8; 256], k: &Core, address: usize) -> u8
+    ensures { result ≡ rule.byte_read (answers.controller m.now k.now) address }
 {
     if Map::read_only(address) {
         return status_read(k, address);
@@ -58,52 +51,39 @@ fn byte_read(m: &[u8; 256], k: Core, address: usize) -> u8
 
 // ---- the call
 
-// 4, once the access is open.
-#[tactic(auto, using(std::proofs::lemmas::Bool::Decides::nat_tests), unfolding(rules::specs::Definitions::Answers::answer_lent, rules::specs::Definitions::Answers::number, rules::specs::Definitions::Answers::refused_by, rules::specs::Definitions::Answers::value_of, rules::specs::Definitions::Host::read_refusals, rules::specs::Definitions::Host::byte_read, rules::specs::Definitions::Run::accept, rules::specs::Definitions::Run::refuse, rules::specs::Definitions::Run::unless_refused))]
-fn read_on(m: &[u8; 256], k: Core, address: u16) -> CoreOutcome
-    ensures { answers.answer_lent result m.now ≡ run.unless_refused (answers.controller m.now k) (rule.read_refusals address) (run.accept (rule.byte_read (answers.controller m.now k) address) (answers.controller m.now k)) }
+// 4.
+#[tactic(auto, using(std::proofs::lemmas::Bool::Decides::nat_tests), unfolding(rules::specs::Definitions::Host::read_refusals, rules::specs::Definitions::Run::first_due))]
+fn readable(address: u16) -> Result<(), Refusal>
+    ensures { result ≡ run.first_due (rule.read_refusals address) }
 {
     let a = address as usize;
     if Map::write_only(a) {
-        return CoreOutcome {
-            reply: Reply::Refused(Refusal::Unreadable),
-            next: k,
-        };
+        return Err(Refusal::Unreadable);
     }
     if Map::reserved(a) {
-        return CoreOutcome {
-            reply: Reply::Refused(Refusal::Unreadable), // 4, as write only
-            next: k,
-        };
+        return Err(Refusal::Unreadable); // 4, as write only
     }
-    CoreOutcome {
-        reply: Reply::Accepted(byte_read(m, k, a)),
-        next: k,
-    }
+    Ok(())
+}
+
+// A host read of a state in its ranges: 7, 1, 4.
+#[tactic(auto, using(std::proofs::lemmas::Bool::Decides::nat_tests, access::proofs::Opened::opened, access::proofs::Opened::refused_open, rules::proofs::Refusals::accepted, rules::proofs::Refusals::refused_first, rules::proofs::Refusals::refused_second), unfolding(rules::specs::Definitions::Answers::lent, rules::specs::Definitions::Answers::refused_by, rules::specs::Definitions::Answers::value_of, rules::specs::Definitions::Run::host_read, rules::specs::Definitions::Run::accept, rules::specs::Definitions::Run::refuse))]
+pub fn host_read_in_range(m: &[u8; 256], k: &Core, address: u16) -> Result<u8, Refusal>
+    requires range { state_rule.in_range (answers.controller m.now k.now) ≡ true }
+    ensures { answers.lent result (answers.controller m.now k.now) ≡ run.host_read (answers.controller m.now k.now) address }
+{
+    access::open(k, address)?;
+    readable(address)?;
+    Ok(byte_read(m, k, address as usize))
 }
 
 // A host read: 6, 7, 1, 4.
-#[tactic(auto, using(std::proofs::lemmas::Bool::Decides::nat_tests), unfolding(rules::specs::Definitions::Answers::answer_lent, rules::specs::Definitions::Answers::number, rules::specs::Definitions::Answers::refused_by, rules::specs::Definitions::Answers::value_of, rules::specs::Definitions::Run::host_read, rules::specs::Definitions::Run::accept, rules::specs::Definitions::Run::refuse, rules::specs::Definitions::Run::unless_refused, rules::specs::Definitions::Host::access_refusals, rules::specs::Definitions::Host::read_refusals))]
-pub fn host_read_on(m: &[u8; 256], k: Core, address: u16) -> CoreOutcome
-    ensures { answers.answer_lent result m.now ≡ run.host_read (answers.controller m.now k) address }
+#[tactic(auto, using(std::proofs::lemmas::Bool::Decides::nat_tests), unfolding(rules::specs::Definitions::Answers::lent, rules::specs::Definitions::Answers::number, rules::specs::Definitions::Answers::refused_by, rules::specs::Definitions::Answers::value_of, rules::specs::Definitions::Run::host_read, rules::specs::Definitions::Run::refuse, rules::specs::Definitions::Run::unless_refused, rules::specs::Definitions::Host::access_refusals))]
+pub fn host_read_on(m: &[u8; 256], k: &Core, address: u16) -> Result<u8, Refusal>
+    ensures { answers.lent result (answers.controller m.now k.now) ≡ run.host_read (answers.controller m.now k.now) address }
 {
-    if ranges::in_range(m, k) {
-        if modes::is_asleep(k.activity) {
-            return CoreOutcome {
-                reply: Reply::Refused(Refusal::Asleep), // 7 before 1
-                next: k,
-            };
-        }
-        if 255 < address {
-            return CoreOutcome {
-                reply: Reply::Refused(Refusal::Address),
-                next: k,
-            };
-        }
-        return read_on(m, k, address);
+    if !ranges::in_range(m, k) {
+        return Err(Refusal::Range);
     }
-    CoreOutcome {
-        reply: Reply::Refused(Refusal::Range),
-        next: k,
-    }
+    host_read_in_range(m, k, address)
 }

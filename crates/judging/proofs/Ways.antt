@@ -2,11 +2,12 @@
 use Prim.Native.Nat.{ℕ}
 use mathlib.Core.Bool.{true, false≢true}
 use mathlib.Core.List.{List}
-use mathlib.Core.Path.{◌≡◌, refl, sym, ◌∙◌, ap}
+use mathlib.Core.Path.{◌≡◌, refl}
 use Rattle.line.proofs.Laws.{pick_same}
-use Rattle.rules.specs.Definitions.Registers.{both}
+use Rattle.rules.specs.Definitions.Setters.{with_effort, with_service}
+use Rattle.rules.specs.Definitions.Attempt.{advance, at_stage, between_attempts, is_between}
 use Rattle.rules.specs.Definitions.Delivery.{delivery_of, delivery_to, memory_delivered, report_heard, report_delivered}
-use Rattle.rules.specs.Definitions.Service.{ending_of, settled, memory_ended, report_judged, report_ended, fulfils, memory_replied, report_replied, hear_own, receives}
+use Rattle.rules.specs.Definitions.Service.{stopped, ending_of, settled, memory_ended, report_judged, report_ended, fulfils, memory_replied, report_replied, hear_own, receives}
 use Rattle.rules.specs.Definitions.Slots.{role_in, verdict_as, verdict, reply_verdict, reply_after, heard_as, heard, delivers, service_judged, ending, memory_judged, report_after}
 use Rattle.rules.specs.declared.Role.{Role}
 use Rattle.rules.specs.declared.Role.TheVariants.{Nobody, Receiver, Sender, Asker, Replier}
@@ -18,13 +19,13 @@ use Rattle.rules.specs.declared.Verdict.TheVariants.{Unjudged, Goes, Lost, Faile
 use Rattle.rules.specs.declared.Ending.{Ending}
 use Rattle.rules.specs.declared.Ending.TheVariants.{Going, Sent, Exhausted, Aborted, Rearbitrated, Fulfilled}
 use Rattle.rules.specs.declared.Reception.{Reception}
+use Rattle.rules.specs.declared.Effort.{Effort}
 use Rattle.rules.specs.declared.Report.{Report}
 use Rattle.rules.specs.declared.Service.{Service}
 use Rattle.rules.specs.declared.Core.{Core}
-use Rattle.rules.proofs.Logic.{both_true}
 use Rattle.judging.specs.Judged as judged
-use Rattle.judging.specs.Judged.{hears, tried}
-use Rattle.judging.specs.Ordinary.{passes, unmarked, goes, ordinary, Marks}
+use Rattle.judging.specs.Judged.{hears, tried, effected}
+use Rattle.judging.specs.Ordinary.{passes, goes, stays, Marks}
 
 going : (x : Ending) → goes x ≡ true → x ≡ Going
 going Going e = refl
@@ -55,15 +56,6 @@ unheard Silent a e = refl
 unheard Follows a e = refl
 unheard (Fault code) a e = absurd (false≢true e)
 unheard Good a e = absurd (false≢true e)
-
-uncounted : (w : Verdict) (a : Report) (s : Service) → unmarked w ≡ true → report_judged w a s ≡ a
-unfolding report_judged unmarked
-uncounted Unjudged a s u = refl
-uncounted Goes a s u = refl
-uncounted Lost a s u = absurd (false≢true u)
-uncounted (Failed code) a s u = absurd (false≢true u)
-uncounted Done a s u = absurd (false≢true u)
-uncounted Answered a s u = refl
 
 -- a reply whose slot is no end for the line
 replied_map_lem : (q : Verdict) (m : List ℕ) (c : ℕ) → passes (hear_own q) ≡ true → memory_replied q m c ≡ m
@@ -96,22 +88,32 @@ pub reply_marked : (k : Core) (v : ℕ) → Marks (reply_verdict (role_in k) k v
 unfolding heard
 reply_marked k v = reply_marks (role_in k) k (verdict k v) v
 
-module _ (k : Core) (w q : Verdict) (h : Hearing) (s : Service) (x : Ending) (counted : s ≡ service_judged w k.service) (reply : Marks q h) (is : x ≡ ending_of w s) (e : ordinary w h x ≡ true) where
-  pass : passes h ≡ true
-  unfolding ordinary
-  pass = (both_true (passes h) (both (unmarked w) (goes x)) e).0
+stays_on : (w : Verdict) (s : Service) → stays w s ≡ true → ending_of w (service_judged w s) ≡ Going
+unfolding stays ending_of stopped service_judged advance at_stage between_attempts is_between
+stays_on Unjudged s e = going (stopped s) e
+stays_on Goes s e = refl
+stays_on Lost s e = absurd (false≢true e)
+stays_on (Failed code) s e = absurd (false≢true e)
+stays_on Done s e = absurd (false≢true e)
+stays_on Answered s e = refl
 
-  rest : (unmarked w ≡ true) × (goes x ≡ true)
-  unfolding ordinary
-  rest = both_true (unmarked w) (goes x) (both_true (passes h) (both (unmarked w) (goes x)) e).1
+uncounted : (w : Verdict) (a : Report) (s b : Service) → stays w s ≡ true → report_judged w a b ≡ a
+unfolding report_judged stays
+uncounted Unjudged a s b u = refl
+uncounted Goes a s b u = refl
+uncounted Lost a s b u = absurd (false≢true u)
+uncounted (Failed code) a s b u = absurd (false≢true u)
+uncounted Done a s b u = absurd (false≢true u)
+uncounted Answered a s b u = refl
 
+module _ (k : Core) (w q : Verdict) (h : Hearing) (reply : Marks q h) (pass : passes h ≡ true) (stay : stays w k.service ≡ true) where
   unreplied : passes (hear_own q) ≡ true
   unfolding Marks
   unreplied = reply pass
 
   on : ending k w h ≡ Going
   unfolding ending fulfils
-  on = rw (nothing (role_in k) h k.reception pass) (ap (ending_of w) (sym counted) ∙ sym is ∙ going x rest.1)
+  on = rw (nothing (role_in k) h k.reception pass) (stays_on w k.service stay)
 
   pub memory_kept : (m : List ℕ) → m ≡ memory_judged m k w q h
   unfolding memory_judged memory_ended memory_delivered
@@ -120,11 +122,15 @@ module _ (k : Core) (w q : Verdict) (h : Hearing) (s : Service) (x : Ending) (co
   pub report_kept : k.report ≡ report_after k w q h
   unfolding report_after report_ended report_delivered
   report_kept =
-      rw (on, nothing (role_in k) h k.reception pass, unheard h k.report pass, uncounted w k.report (service_judged w k.service) rest.0, replied_report q k.report k.reply.channel unreplied)
+      rw (on, nothing (role_in k) h k.reception pass, unheard h k.report pass, uncounted w k.report k.service (service_judged w k.service) stay, replied_report q k.report k.reply.channel unreplied)
 
-  pub service_kept : s ≡ settled (ending k w h) (service_judged w k.service)
+  pub service_kept : service_judged w k.service ≡ settled (ending k w h) (service_judged w k.service)
   unfolding settled
-  service_kept = rw on counted
+  service_kept = rw on
+
+  pub effect_kept : (e : Effort) → e ≡ advance w k.service.effort → with_service k (with_effort k.service e) ≡ effected k w q h
+  unfolding effected settled service_judged
+  effect_kept e d = rw (on, ← report_kept) (λ i. with_service k (with_effort k.service (d i)))
 
 -- ---- what a sample is, from the parts of the state
 

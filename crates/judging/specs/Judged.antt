@@ -1,6 +1,6 @@
 -- What a sample is, by what the model is in the frame under way, from the parts of the state that decide it.
 --   hears == for the line, but for a frame of the model's own        tried, reply_verdict == for the attempt, for the reply        heard == for the line
---   reply_after == the reply after the sample
+--   reply_after == the reply after the sample        effected == the state with the sample's effect on registers and service
 use Rattle.std.specs.Prelude.{ℕ, List}
 use Rattle.line.specs.Bits.{pick}
 use Rattle.rules.specs.Definitions.Longest.{capacity}
@@ -8,7 +8,10 @@ use Rattle.rules.specs.Definitions.Reception.{reads_asked}
 use Rattle.rules.specs.Definitions.Hearing.{hear_frame, hear_quiet}
 use Rattle.rules.specs.Definitions.Delivery.{delivery_of}
 use Rattle.rules.specs.Definitions.Attempt.{judge_slot}
-use Rattle.rules.specs.Definitions.Service.{receives, answered_as, judge_reply, replied, reply_taken, hear_own}
+use Rattle.rules.specs.Definitions.Service.{receives, answered_as, judge_reply, replied, reply_taken, hear_own, settled}
+use Rattle.rules.specs.Definitions.Setters.{with_report, with_service}
+use Rattle.rules.specs.Definitions.Slots.{service_judged, ending, report_after}
+use Rattle.rules.specs.declared.Core.{Core}
 use Rattle.rules.specs.declared.Line.{Line}
 use Rattle.rules.specs.declared.Reception.{Reception}
 use Rattle.rules.specs.declared.Hearing.{Hearing}
@@ -52,3 +55,7 @@ reply_after Receiver m y q r = pick (reads_asked r) (reply_taken m capacity r) y
 reply_after Sender m y q r = y
 reply_after Asker m y q r = y
 reply_after Replier m y q r = replied q y
+
+-- q is what the sample is for the reply
+unfoldable pub effected : Core → Verdict → Verdict → Hearing → Core
+effected k w q h = with_service (with_report k (report_after k w q h)) (settled (ending k w h) (service_judged w k.service))

@@ -7,9 +7,9 @@ use native.Mathlib.Omega.{arith}
 use borrow.Author.Tests.{ltb-true, ltb-false, eqb-true, eqb-false}
 use lib.Dec.{ltb, eqb}
 use lib.ListN.{length, get_or, take}
-use Rattle.leb128.specs.Leb128.{pick, Refusal, Parsed, before, groups, decode, looked_of}
-use Rattle.leb128.specs.Leb128.Parsed.{Value, Refused}
-use Rattle.leb128.specs.Leb128.Refusal.{Cut, NotShortest, TooLarge}
+use Rattle.leb128.specs.Leb128.{pick, Parsed, before, groups, decode, looked_of, Value, Refused}
+use Rattle.leb128.specs.declared.Refusal.{Refusal}
+use Rattle.leb128.specs.declared.Refusal.TheVariants.{Cut, NotShortest, TooLarge}
 use Rattle.leb128.specs.Claims.{RefusedAfter, After, Looked}
 use Rattle.leb128.proofs.GroupLaws.{looked_fits, one_byte_more}
 

@@ -1,16 +1,15 @@
 -- Laws of the groups read and of the groups of a value.
-use Prim.Native.Nat.{ℕ, zero, suc, ◌+◌, ◌-◌, ◌*◌, ◌/◌, ◌%◌, ◌<◌, ◌≤◌}
+use Prim.Native.Nat.{ℕ, zero, suc, ◌+◌, ◌*◌, ◌/◌, ◌%◌, ◌<◌, ◌≤◌}
 use mathlib.Core.Bool.{Bool, true, false}
 use mathlib.Core.List.{List, [], ◌∷◌, ◌++◌}
 use mathlib.Core.Path.{◌≡◌, refl, ap, ◌∙◌}
 use native.Mathlib.Omega.{arith}
 use borrow.Author.Tests.{lt-ltb, le-ltb, ne_eqb, ltb-true, ltb-false}
 use lib.Dec.{ltb, eqb}
-use lib.ListN.{length, take, drop, length-drop}
-use lib.Seq.{take-length}
-use Rattle.leb128.specs.Leb128.{pick, Refusal, Parsed, before, groups, decode, refusal_number, fault_of, value_of, rest_of, looked_of, groups_of, uleb128}
-use Rattle.leb128.specs.Leb128.Parsed.{Value, Refused}
-use Rattle.leb128.specs.Leb128.Refusal.{Cut, NotShortest, TooLarge}
+use lib.ListN.{length}
+use Rattle.leb128.specs.Leb128.{pick, Parsed, before, groups, decode, looked_of, groups_of, uleb128, Value, Refused}
+use Rattle.leb128.specs.declared.Refusal.{Refusal}
+use Rattle.leb128.specs.declared.Refusal.TheVariants.{Cut, NotShortest, TooLarge}
 
 -- What holds of both ways holds of the one picked.
 pub either : {A : Type 0} (P : A → Type 0) (x : Bool) {i j : A} → (x ≡ true → P i) → (x ≡ false → P j) → P (pick x i j)
@@ -37,18 +36,6 @@ small k n h = simp (lt-ltb _ _ h)
 pub large : (k n : ℕ) → 128 ≤ n → groups_of (suc k) n ≡ (128 + n % 128) ∷ groups_of k (n / 128)
 unfolding groups_of
 large k n h = simp (le-ltb _ _ h)
-
--- Where there is no fault there is a value.
-not_zero : (f : Refusal) → refusal_number f ≡ 0 → ⊥
-unfolding refusal_number
-not_zero Cut h = omega arith
-not_zero NotShortest h = omega arith
-not_zero TooLarge h = omega arith
-
-pub is_value : (r : Parsed) → fault_of r ≡ 0 → r ≡ Value (value_of r) (looked_of r) (rest_of r)
-unfolding fault_of value_of looked_of rest_of
-is_value (Value v u t) h = refl
-is_value (Refused f u) h = absurd (not_zero f h)
 
 -- No more bytes are looked at than there are.
 pub one_byte_more : (b : ℕ) (r : Parsed) → looked_of (before b r) ≡ looked_of r + 1
@@ -109,10 +96,6 @@ more_groups : (k m n : ℕ) → m ≤ n → length (groups_of k m) ≤ length (g
 more_groups zero m n h = no_groups m n
 more_groups (suc k) m n h = one_group_more k m n h (more_groups k (m / 128) (n / 128) (omega arith))
 
-pub uleb128_some : (n : ℕ) → 1 ≤ length (uleb128 n)
-unfolding uleb128
-uleb128_some n = some_groups 2 n
-
 pub uleb128_most : (n : ℕ) → length (uleb128 n) ≤ 3
 unfolding uleb128
 uleb128_most n = most_groups 3 n
@@ -170,7 +153,3 @@ groups_followed (suc k) (b ∷ s) t h = group_followed k b s t (groups_followed 
 pub decode_followed : (s t : List ℕ) → ((u : ℕ) → decode s ≡ Refused Cut u → ⊥) → decode (s ++ t) ≡ followed (decode s) t
 unfolding decode
 decode_followed s t h = groups_followed 3 s t h
-
--- A part that runs to the end.
-pub to_end : (a : ℕ) (s : List ℕ) → take (length s - a) (drop a s) ≡ drop a s
-to_end a s = simp (← (length-drop a s), take-length)

@@ -1,4 +1,3 @@
-pub mod Laws
 pub mod GroupLaws
 pub mod RoundTrip
 pub mod Figure

@@ -7,9 +7,9 @@ use native.Mathlib.Omega.{arith}
 use borrow.Author.Tests.{ltb-true, ltb-false, eqb-false}
 use lib.Dec.{ltb, eqb}
 use lib.ListN.{length}
-use Rattle.leb128.specs.Leb128.{pick, Bytes, Refusal, Parsed, before, groups, decode, groups_of, uleb128}
-use Rattle.leb128.specs.Leb128.Parsed.{Value, Refused}
-use Rattle.leb128.specs.Leb128.Refusal.{Cut, NotShortest, TooLarge}
+use Rattle.leb128.specs.Leb128.{pick, Bytes, Parsed, before, groups, decode, groups_of, uleb128, Value, Refused}
+use Rattle.leb128.specs.declared.Refusal.{Refusal}
+use Rattle.leb128.specs.declared.Refusal.TheVariants.{Cut, NotShortest, TooLarge}
 use Rattle.leb128.proofs.GroupLaws.{alone, opens, joins, small, large, refused_stays}
 
 -- One group more, of a number that takes at most k above it.

@@ -1,9 +1,9 @@
 -- What is claimed of the bytes that a number's reading looks at: the types of the claims, whose values crate claims holds.
 --   Looked == how many they are, and which
 use Rattle.std.specs.Prelude.{ℕ, ◌+◌, ◌-◌, ◌<◌, ◌≤◌, List, ◌++◌, ◌≡◌, length, get_or, take}
-use Rattle.leb128.specs.Leb128.{Refusal, Parsed, decode, looked_of}
-use Rattle.leb128.specs.Leb128.Parsed.{Value, Refused}
-use Rattle.leb128.specs.Leb128.Refusal.{Cut, NotShortest, TooLarge}
+use Rattle.leb128.specs.Leb128.{Parsed, decode, looked_of, Value, Refused}
+use Rattle.leb128.specs.declared.Refusal.{Refusal}
+use Rattle.leb128.specs.declared.Refusal.TheVariants.{Cut, NotShortest, TooLarge}
 
 -- 02, Req 02, "for 30, 31 and 32 how many bytes were looked at". 30: all that there are, and each says that a group follows. 31: up to and with the group that
 -- is zero. 32: three, and the third is above 3.

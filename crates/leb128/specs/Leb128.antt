@@ -1,17 +1,16 @@
 -- 01, Session and listing: the numbers of a session are unsigned LEB128, in the shortest form, of at most three groups and at most 65,535.
 --   decode == the value at the start of the bytes, and how many of them it used        uleb128 == the bytes of a value
-use Rattle.std.specs.Prelude.{ℕ, zero, suc, ◌+◌, ◌*◌, ◌/◌, ◌%◌, ◌<◌, List, [], ◌∷◌, Bool, true, false, ltb, eqb, get_or}
+use Rattle.std.specs.Prelude.{ℕ, zero, suc, ◌+◌, ◌*◌, ◌/◌, ◌%◌, ◌<◌, List, [], ◌∷◌, Result, Ok, Err, Bool, true, false, ltb, eqb, get_or}
+use Rattle.leb128.specs.declared.Refusal.{Refusal}
+use Rattle.leb128.specs.declared.Refusal.TheVariants.{Cut, NotShortest, TooLarge}
+use Rattle.leb128.specs.declared.Number.{Number}
+use Rattle.leb128.specs.declared.BadNumber.{BadNumber}
 
 abbrev pub pick : {A : Type 0} → Bool → A → A → A
 pick true a b = a
 pick false a b = b
 
 -- 01, Numbers refused: 30, 31, 32 "number cut, not shortest, above 65,535".
-pub data Refusal : Type 0 where
-  Cut : Refusal
-  NotShortest : Refusal
-  TooLarge : Refusal
-
 unfoldable pub refusal_number : Refusal → ℕ
 refusal_number Cut = 30
 refusal_number NotShortest = 31
@@ -21,6 +20,11 @@ refusal_number TooLarge = 32
 pub data Parsed : Type 0 where
   Value : ℕ → ℕ → List ℕ → Parsed
   Refused : Refusal → ℕ → Parsed
+
+-- The same of what the reader returns.
+abbrev pub parsed : Result Number BadNumber → Parsed
+parsed (Ok n) = Value n.value n.used n.rest.now
+parsed (Err e) = Refused e.why e.looked
 
 -- The group b before those of the value `high`: one byte more, which holds the seven bits below. If `high` is 0, they are not the shortest form.
 unfoldable pub before : ℕ → Parsed → Parsed

@@ -1,12 +1,14 @@
 -- What the writers of texts and numerals leave in the room.
-use Prim.Native.Nat.{ℕ, ◌+◌, ◌/◌, ◌%◌, ◌≤◌, ◌<◌}
+use Prim.Native.Nat.{ℕ, ◌+◌, ◌-◌, ◌/◌, ◌%◌, ◌≤◌, ◌<◌}
 use mathlib.Core.Bool.{Bool, true, false}
 use borrow.Author.Tests.{leb-true, le-leb}
-use mathlib.Core.List.{List, [], ◌∷◌, ◌++◌}
+use mathlib.Core.List.{List, [], ◌∷◌, ◌++◌, append_assoc}
 use mathlib.Core.Path.{◌≡◌, refl, ap, sym, ◌∙◌}
 use native.Mathlib.Numerals.{add-one}
 use native.Mathlib.Omega.{arith}
-use lib.ListN.{set, length}
+use lib.ListN.{set, length, take, drop}
+use lib.Seq.{sets-eq, drop-drop}
+use borrow.Rule.Slice.PartMut.{put_mid}
 use Rattle.listing.specs.Listing.{digit, decimal, two_digits, hexadecimal, holds, line_room, line_place}
 use Rattle.listing.specs.Laid.{Laid, last_two}
 use Rattle.listing.proofs.Laws.{joined, decimal_one, decimal_more, decimal_hundreds, last_two_lem, decimal_long_18, hexadecimal_two, hexadecimal_more}
@@ -79,3 +81,10 @@ held {room} {at = at} h l = (simp (le-leb (at + 80) (length room) h) l.behind, s
 pub short : (room text : List ℕ) (at : ℕ) (b : Bool) → b ≡ holds (length room) at → b ≡ false → (at ≡ line_place (length room) at text) × (room ≡ line_room room at text)
 unfolding line_place line_room
 short room text at b e f = (rw (sym e ∙ f), rw (sym e ∙ f))
+
+-- ---- a text copied into its part of the room
+
+pub text_put : (room text part : List ℕ) (at : ℕ) → at + length text ≤ length room → part ≡ text → Laid room at text (put_mid at (at + length text - at) room part) (at + length text)
+text_put room text part at h e =
+    let k : at + length text - at ≡ length text = omega arith in
+    record { room = rw (e, k) (ap (λ (r : List ℕ). take at room ++ (text ++ r)) (drop-drop (length text) at room) ∙ sym (append_assoc (take at room) text (drop (at + length text) room)) ∙ sym (sets-eq text room at h)); behind = refl }

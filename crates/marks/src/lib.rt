@@ -2,37 +2,12 @@
 // The map is lent and changed in place. A channel number is taken modulo 14.
 #![tactic(auto)]
 
-ghost use Rattle.std.specs.Prelude.{◌≡◌};
+ghost use Rattle.std.specs.Prelude.{◌≡◌, ◌+◌, get_or, set};
+ghost use Rattle.std.specs.Int.Bits.{bit_or};
 ghost use Rattle.rules.specs.Definitions.Channels as channel;
 ghost use Rattle.rules.specs.Definitions.Mailbox as rule;
 
 use channels::Layout;
-
-// ---- the status byte
-
-// The byte +3 with CHER set.
-#[tactic(auto, using(std::proofs::lemmas::Bool::Decides::nat_tests, rules::proofs::Bits::or_mask), unfolding(rules::specs::Definitions::Channels::with_cher))]
-fn with_cher(status: u8) -> u8
-    ensures { result ≡ channel.with_cher status }
-{
-    status | Layout::CHER
-}
-
-// The byte +3 with CHTx set.
-#[tactic(auto, using(std::proofs::lemmas::Bool::Decides::nat_tests, rules::proofs::Bits::or_mask), unfolding(rules::specs::Definitions::Channels::with_chtx))]
-fn with_chtx(status: u8) -> u8
-    ensures { result ≡ channel.with_chtx status }
-{
-    status | Layout::CHTX
-}
-
-// The byte +3 with CHRx set.
-#[tactic(auto, using(std::proofs::lemmas::Bool::Decides::nat_tests, rules::proofs::Bits::or_mask), unfolding(rules::specs::Definitions::Channels::with_chrx))]
-fn with_chrx(status: u8) -> u8
-    ensures { result ≡ channel.with_chrx status }
-{
-    status | Layout::CHRX
-}
 
 // ---- a channel of the map
 
@@ -47,29 +22,34 @@ pub fn retag(m: &mut [u8; 256], c: u8, high: u8, low: u8)
     m[at + Layout::TAG_COMMAND] = low / 16 * 16 + kept;
 }
 
+// A mark's bit set in the status byte of channel c.
+#[tactic(auto, using(std::proofs::lemmas::Bool::Decides::nat_tests))]
+fn set_mark(m: &mut [u8; 256], c: u8, mark: u8)
+    ensures { m.new ≡ set m.old (channel.base c + 3) (bit_or (get_or m.old (channel.base c + 3) 0) mark) }
+{
+    m[channels::base(c) + Layout::LENGTH_STATUS] |= mark;
+}
+
 // CHER set in channel c.
-#[tactic(auto, using(std::proofs::lemmas::Bool::Decides::nat_tests), unfolding(rules::specs::Definitions::Mailbox::marked_cher))]
+#[tactic(auto, using(std::proofs::lemmas::Bool::Decides::nat_tests, crate::proofs::Marks::cher_set))]
 pub fn mark_cher(m: &mut [u8; 256], c: u8)
     ensures { m.new ≡ rule.marked_cher m.old c }
 {
-    let at = channels::base(c) + Layout::LENGTH_STATUS;
-    m[at] = with_cher(m[at]);
+    set_mark(m, c, Layout::CHER);
 }
 
 // CHTx set in channel c.
-#[tactic(auto, using(std::proofs::lemmas::Bool::Decides::nat_tests), unfolding(rules::specs::Definitions::Mailbox::marked_chtx))]
+#[tactic(auto, using(std::proofs::lemmas::Bool::Decides::nat_tests, crate::proofs::Marks::chtx_set))]
 pub fn mark_chtx(m: &mut [u8; 256], c: u8)
     ensures { m.new ≡ rule.marked_chtx m.old c }
 {
-    let at = channels::base(c) + Layout::LENGTH_STATUS;
-    m[at] = with_chtx(m[at]);
+    set_mark(m, c, Layout::CHTX);
 }
 
 // CHRx set in channel c.
-#[tactic(auto, using(std::proofs::lemmas::Bool::Decides::nat_tests), unfolding(rules::specs::Definitions::Mailbox::marked_chrx))]
+#[tactic(auto, using(std::proofs::lemmas::Bool::Decides::nat_tests, crate::proofs::Marks::chrx_set))]
 pub fn mark_chrx(m: &mut [u8; 256], c: u8)
     ensures { m.new ≡ rule.marked_chrx m.old c }
 {
-    let at = channels::base(c) + Layout::LENGTH_STATUS;
-    m[at] = with_chrx(m[at]);
+    set_mark(m, c, Layout::CHRX);
 }

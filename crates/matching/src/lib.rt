@@ -1,5 +1,6 @@
 // Matching: who takes a frame, who sends, who replies (01, Receiving, Sending; 02, Req 01; 000, Channel Registers).
 // `low` is byte 1 of a frame or of a channel: identifier or tag bits 3 to 0, EXT, RAK, R/W, RTR.
+// A frame's first two bytes, `high` and `low`, are no struct: the definitions take two numbers, and would name a record's fields in their place.
 #![tactic(auto)]
 
 ghost use Rattle.std.specs.Prelude.{◌≡◌, not};
@@ -7,7 +8,7 @@ ghost use Rattle.rules.specs.Definitions.Registers.{both};
 ghost use Rattle.rules.specs.Definitions.Channels as rule;
 
 use channels::Layout;
-use rules::{Buffer, Channel, Choice, Winner};
+use rules::{Buffer, Channel, Winner};
 
 // ---- the bits of a channel that are read here
 
@@ -42,7 +43,7 @@ fn status_bits(x: Channel) -> u8
 fn receive_message(bits: u8) -> bool
     ensures { result ≡ rule.receive_message bits }
 {
-    (bits == 0b0100) | (bits == 0b0110)
+    matches!(bits, 0b0100 | 0b0110)
 }
 
 // 1,0,1,0.
@@ -58,7 +59,7 @@ fn request_detection(bits: u8) -> bool
 fn transmit_message(bits: u8) -> bool
     ensures { result ≡ rule.transmit_message bits }
 {
-    (bits == 0b0000) | (bits == 0b0001)
+    matches!(bits, 0b0000 | 0b0001)
 }
 
 // 1,0,0,1.
@@ -82,7 +83,7 @@ fn reply_request(bits: u8) -> bool
 fn awaits_reply(bits: u8) -> bool
     ensures { result ≡ rule.awaits_reply bits }
 {
-    (bits == 0b1100) | (bits == 0b1110)
+    matches!(bits, 0b1100 | 0b1110)
 }
 
 // 1,0,0,0.
@@ -119,10 +120,10 @@ fn listens(x: Channel, low: u8) -> bool
     ensures { result ≡ rule.listens x low }
 {
     let bits = status_bits(x);
-    let data = (low % 4 == 0b00) & (receive_message(bits));
-    let request = (low % 4 == 0b11) & (request_detection(bits));
-    let reply = (low % 4 == 0b10) & (awaits_reply(bits));
-    (channels::extension(low)) & ((data) | ((request) | (reply)))
+    let data = low % 4 == 0b00 && receive_message(bits);
+    let request = low % 4 == 0b11 && request_detection(bits);
+    let reply = low % 4 == 0b10 && awaits_reply(bits);
+    channels::extension(low) && (data || request || reply)
 }
 
 // Whether channel c takes the frame: it listens, its tag matches under its mask, its link is good.
@@ -131,14 +132,7 @@ fn takes(m: &[u8; 256], c: u8, high: u8, low: u8) -> bool
     ensures { result ≡ rule.takes m.now c high low }
 {
     let x = channels::channel_at(m, c);
-    if listens(x, low) {
-        if tag_matches(x, high, low) {
-            let b = channels::buffer_of(m, c);
-            return b.legal;
-        }
-        return false;
-    }
-    false
+    listens(x, low) && tag_matches(x, high, low) && channels::buffer_of(m, c).legal
 }
 
 // No channel takes the frame.
@@ -172,28 +166,21 @@ fn winner_of(m: &[u8; 256], c: u8) -> Winner
 }
 
 // The lowest channel that takes the frame.
-#[tactic(auto, using(std::proofs::lemmas::Bool::Decides::nat_tests, crate::proofs::Lowest::lowest_here, crate::proofs::Lowest::lowest_next, crate::proofs::Lowest::lowest_end))]
-fn lowest_listening(m: &[u8; 256], high: u8, low: u8) -> Choice
+#[tactic(auto, using(std::proofs::lemmas::Bool::Decides::nat_tests))]
+fn lowest_listening(m: &[u8; 256], high: u8, low: u8) -> Option<u8>
     ensures { result ≡ rule.lowest_listening m.now high low }
 {
-    let mut c: u8 = 0;
-    while c < channels::CHANNELS {
-        if takes(m, c, high, low) {
-            return Choice::Lowest(c);
-        }
-        c += 1;
-    }
-    Choice::Nothing
+    (0..channels::CHANNELS).find(|c| takes(m, *c, high, low))
 }
 
 // What is held of the channel that takes the frame.
 #[tactic(auto, using(std::proofs::lemmas::Bool::Decides::nat_tests), unfolding(rules::specs::Definitions::Channels::won))]
-fn won(m: &[u8; 256], x: Choice) -> Winner
+fn won(m: &[u8; 256], x: Option<u8>) -> Winner
     ensures { result ≡ rule.won m.now x }
 {
     match x {
-        Choice::Nothing => nobody(),
-        Choice::Lowest(c) => winner_of(m, c),
+        None => nobody(),
+        Some(c) => winner_of(m, c),
     }
 }
 
@@ -213,8 +200,8 @@ fn asks_to_send(x: Channel) -> bool
     ensures { result ≡ rule.asks_to_send x }
 {
     let bits = status_bits(x);
-    ((transmit_message(bits)) | ((deferred_reply(bits)) | (reply_request(bits))))
-        & (!channels::cher(x.status))
+    (transmit_message(bits) || deferred_reply(bits) || reply_request(bits))
+        && !channels::cher(x.status)
 }
 
 // Whether the buffer holds a status byte and at most `longest` data bytes.
@@ -222,10 +209,7 @@ fn asks_to_send(x: Channel) -> bool
 fn sendable(b: Buffer, longest: u8) -> bool
     ensures { result ≡ rule.sendable b longest }
 {
-    if b.legal {
-        return b.length as u16 <= longest as u16 + 1;
-    }
-    false
+    b.legal && b.length as u16 <= longest as u16 + 1
 }
 
 // Whether channel c is ready to send. The buffer is tested first: it rules out more channels.
@@ -233,25 +217,15 @@ fn sendable(b: Buffer, longest: u8) -> bool
 fn ready(m: &[u8; 256], longest: u8, c: u8) -> bool
     ensures { result ≡ rule.ready m.now longest c }
 {
-    if sendable(channels::buffer_of(m, c), longest) {
-        return asks_to_send(channels::channel_at(m, c));
-    }
-    false
+    sendable(channels::buffer_of(m, c), longest) && asks_to_send(channels::channel_at(m, c))
 }
 
 // The lowest channel ready to send.
-#[tactic(auto, using(std::proofs::lemmas::Bool::Decides::nat_tests, crate::proofs::Lowest::lowest_here, crate::proofs::Lowest::lowest_next, crate::proofs::Lowest::lowest_end))]
-pub fn lowest_ready(m: &[u8; 256], longest: u8) -> Choice
+#[tactic(auto, using(std::proofs::lemmas::Bool::Decides::nat_tests))]
+pub fn lowest_ready(m: &[u8; 256], longest: u8) -> Option<u8>
     ensures { result ≡ rule.lowest_ready m.now longest }
 {
-    let mut channel: u8 = 0;
-    while channel < channels::CHANNELS {
-        if ready(m, longest, channel) {
-            return Choice::Lowest(channel);
-        }
-        channel += 1;
-    }
-    Choice::Nothing
+    (0..channels::CHANNELS).find(|c| ready(m, longest, *c))
 }
 
 // ---- who replies
@@ -261,7 +235,7 @@ pub fn lowest_ready(m: &[u8; 256], longest: u8) -> Choice
 fn replies(x: Channel, b: Buffer, longest: u8) -> bool
     ensures { result ≡ both (rule.immediate_reply (rule.status_bits x)) (both (not (rule.cher x.status)) (rule.sendable b longest)) }
 {
-    (immediate_reply(status_bits(x))) & ((!channels::cher(x.status)) & (sendable(b, longest)))
+    immediate_reply(status_bits(x)) && !channels::cher(x.status) && sendable(b, longest)
 }
 
 // Whether channel c ends the search for a replier: its tag matches, and it detects requests or replies.
@@ -270,50 +244,38 @@ fn settles_reply(m: &[u8; 256], longest: u8, c: u8, high: u8, low: u8) -> bool
     ensures { result ≡ rule.settles_reply m.now longest high low c }
 {
     let x = channels::channel_at(m, c);
-    if tag_matches(x, high, low) {
-        let buffer = channels::buffer_of(m, c);
-        if request_detection(status_bits(x)) {
-            return buffer.legal;
-        }
-        return replies(x, buffer, longest);
+    if !tag_matches(x, high, low) {
+        return false;
     }
-    false
+    let buffer = channels::buffer_of(m, c);
+    if request_detection(status_bits(x)) {
+        return buffer.legal;
+    }
+    replies(x, buffer, longest)
 }
 
 // The lowest channel that settles it.
-#[tactic(auto, using(std::proofs::lemmas::Bool::Decides::nat_tests, crate::proofs::Lowest::lowest_here, crate::proofs::Lowest::lowest_next, crate::proofs::Lowest::lowest_end))]
-fn lowest_settling(m: &[u8; 256], longest: u8, high: u8, low: u8) -> Choice
+#[tactic(auto, using(std::proofs::lemmas::Bool::Decides::nat_tests))]
+fn lowest_settling(m: &[u8; 256], longest: u8, high: u8, low: u8) -> Option<u8>
     ensures { result ≡ rule.lowest (rule.settles_reply m.now longest high low) rule.channels 0 }
 {
-    let mut candidate: u8 = 0;
-    while candidate < channels::CHANNELS {
-        if settles_reply(m, longest, candidate, high, low) {
-            return Choice::Lowest(candidate);
-        }
-        candidate += 1;
-    }
-    Choice::Nothing
+    (0..channels::CHANNELS).find(|c| settles_reply(m, longest, *c, high, low))
 }
 
 // The channel, if it replies.
 #[tactic(auto, using(std::proofs::lemmas::Bool::Decides::nat_tests), unfolding(rules::specs::Definitions::Channels::if_replies))]
-fn if_replies(m: &[u8; 256], x: Choice) -> Choice
+fn if_replies(m: &[u8; 256], x: Option<u8>) -> Option<u8>
     ensures { result ≡ rule.if_replies m.now x }
 {
     match x {
-        Choice::Nothing => Choice::Nothing,
-        Choice::Lowest(c) => {
-            if immediate_reply(status_bits(channels::channel_at(m, c))) {
-                return Choice::Lowest(c);
-            }
-            Choice::Nothing
-        }
+        Some(c) if immediate_reply(status_bits(channels::channel_at(m, c))) => Some(c),
+        _ => None,
     }
 }
 
 // The channel that replies to a frame, by its first two bytes.
 #[tactic(auto, using(std::proofs::lemmas::Bool::Decides::nat_tests), unfolding(rules::specs::Definitions::Channels::replier_for))]
-pub fn replier_for(m: &[u8; 256], longest: u8, high: u8, low: u8) -> Choice
+pub fn replier_for(m: &[u8; 256], longest: u8, high: u8, low: u8) -> Option<u8>
     ensures { result ≡ rule.replier_for m.now longest high low }
 {
     if_replies(m, lowest_settling(m, longest, high, low))

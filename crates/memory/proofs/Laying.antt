@@ -1,10 +1,12 @@
 -- Bytes laid into the mailbox and copied out of it, one by one; the bytes of a frame to be sent.
-use Prim.Native.Nat.{ℕ, zero, suc, ◌+◌, ◌-◌, ◌*◌, ◌/◌, ◌%◌, ◌≤◌, ◌<◌}
+use Prim.Native.Nat.{ℕ, zero, suc, ◌+◌, ◌-◌, ◌*◌, ◌/◌, ◌%◌, ◌≤◌, ◌<◌, min}
+use mathlib.Core.Bool.{Bool, true, false}
 use mathlib.Core.List.{List, [], ◌∷◌, ◌++◌, append_assoc}
 use mathlib.Core.Path.{◌≡◌, refl, ap, ◌∙◌, sym}
 use native.Mathlib.Nat.{add-zero, sub-zero}
 use native.Mathlib.Omega.{arith}
-use borrow.Author.Tests.{eq-eqb, ne_eqb, le-leb, lt-leb}
+use borrow.Author.Tests.{eq-eqb, ne_eqb, le-leb, lt-leb, leb-true, leb-false}
+use lib.Dec.{leb}
 use lib.ListN.{length, get_or, set, take, drop, replicate, drop_of_length-le, length-drop}
 use lib.Seq.{sets, take_at, take_all}
 use Rattle.line.specs.Bits.{bits}
@@ -81,11 +83,11 @@ covered_bytes f h =
     ∙ append_assoc (bits 12 f.identifier) (bits 4 f.command) (byte_bits f.bytes)
 
 -- header, data and check, one behind the other
-pub coded_bytes_lem : (f : Frame) (t : List ℕ) (n : ℕ) → f.command < 16 → length f.bytes ≡ n → n ≤ 30 →
+pub sealed_bytes : (f : Frame) (t : List ℕ) (n : ℕ) → f.command < 16 → length f.bytes ≡ n → n ≤ 30 →
     t ≡ sets ((f.identifier / 16) ∷ (f.identifier % 16 * 16 + f.command) ∷ replicate 32 0) 2 f.bytes →
     set (set t (n + 2) (check (byte_bits (take (n + 2) t)) / 128)) (n + 3) (check (byte_bits (take (n + 2) t)) % 128 * 2) ≡ coded_bytes f
 unfolding coded_bytes
-coded_bytes_lem f t n h l b e =
+sealed_bytes f t n h l b e =
     let high : ℕ = f.identifier / 16 in
     let low : ℕ = f.identifier % 16 * 16 + f.command in
     let d : 32 - length f.bytes ≡ suc (suc (30 - length f.bytes)) = omega arith in
@@ -115,7 +117,7 @@ with_coded m c high low n b t₀ t r q h u v w =
     let f : Frame = frame_with m c high low n in
     let l : length f.bytes ≡ n = mailbox_length m (buffer_of m c).pointer 1 n in
     let g : t ≡ sets ((f.identifier / 16) ∷ (f.identifier % 16 * 16 + f.command) ∷ replicate 32 0) 2 f.bytes = v ∙ rw (u, q) in
-    coded_is f n r (sym l) (w ∙ coded_bytes_lem f t n (omega arith) l h g)
+    coded_is f n r (sym l) (w ∙ sealed_bytes f t n (omega arith) l h g)
 
 -- the frame of a channel: a request has no data
 pub sent_request : (m : List ℕ) (c at : ℕ) (r : Coded) → at ≡ base c → get_or m (at + 1) 0 % 4 ≡ 3
@@ -144,7 +146,12 @@ unfolding stored laid_from
 stored_is m bytes pointer len n at status filled k r p q f e h = h ∙ rw (p, q, e, f)
 
 -- no more than 32 bytes are there
-pub all_taken : (bytes : List ℕ) (n : ℕ) → length bytes ≡ 34 → 32 ≤ n → take 32 (drop 2 bytes) ≡ take n (drop 2 bytes)
-all_taken bytes n l h =
-    let d : length (drop 2 bytes) ≡ 32 = length-drop 2 bytes ∙ rw l in
-    take_all 32 (drop 2 bytes) (omega arith) ∙ sym (take_all n (drop 2 bytes) (omega arith))
+pub all_taken : (bytes : List ℕ) (n e : ℕ) → length bytes ≡ 34 → e ≡ min (2 + n) 34 → take (e - 2) (drop 2 bytes) ≡ take n (drop 2 bytes)
+all_taken bytes n e l h = go (leb n 32) refl
+  where
+    d : length (drop 2 bytes) ≡ 32
+    d = length-drop 2 bytes ∙ rw l
+
+    go : (b : Bool) → leb n 32 ≡ b → take (e - 2) (drop 2 bytes) ≡ take n (drop 2 bytes)
+    go true t = let f = leb-true n 32 t in let k : e - 2 ≡ n = omega arith in rw k
+    go false t = let f = leb-false n 32 t in take_all (e - 2) (drop 2 bytes) (omega (arith, d)) ∙ sym (take_all n (drop 2 bytes) (omega (arith, d)))

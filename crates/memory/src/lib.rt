@@ -38,11 +38,8 @@ fn lay(m: &mut [u8; 256], pointer: u8, bytes: &[u8])
     requires { length bytes.now ≤ frame.longest_data + 2 }
     ensures { m.new ≡ rule.laid_from m.old pointer 1 bytes.now }
 {
-    let mut k = 0;
-    while k < bytes.len() {
-        let at = mailbox_at(pointer, k + 1);
-        m[at] = bytes[k];
-        k += 1;
+    for (k, byte) in bytes.iter().enumerate() {
+        m[mailbox_at(pointer, k + 1)] = *byte;
     }
 }
 
@@ -67,12 +64,8 @@ pub fn store(m: &mut [u8; 256], pointer: u8, length: u8, bytes: [u8; line::CODED
 {
     let first = mailbox_at(pointer, 0);
     m[first] = status_byte(bytes[1], n);
-    let end = 2 + places_filled(length, n);
-    if end < line::CODED_BYTES {
-        lay(m, pointer, &bytes[2..end]);
-        return;
-    }
-    lay(m, pointer, &bytes[2..line::CODED_BYTES]);
+    let end = (2 + places_filled(length, n)).min(line::CODED_BYTES);
+    lay(m, pointer, &bytes[2..end]);
 }
 
 // ---- the frame that a channel sends
@@ -106,26 +99,21 @@ fn copy(bytes: &mut [u8; line::CODED_BYTES], m: &[u8; 256], pointer: u8, n: u8)
     requires { n ≤ frame.longest_data }
     ensures { bytes.new ≡ sets bytes.old 2 (rule.mailbox_bytes m.now pointer 1 n) }
 {
-    let mut k = 0;
-    while k < n as usize {
-        let at = mailbox_at(pointer, k + 1);
-        bytes[k + 2] = m[at];
-        k += 1;
+    for k in 0..n as usize {
+        bytes[k + 2] = m[mailbox_at(pointer, k + 1)];
     }
 }
 
 // The check as two bytes behind the data, a zero bit behind it.
 #[tactic(auto, using(std::proofs::lemmas::Bool::Decides::nat_tests))]
-fn sealed(bytes: [u8; line::CODED_BYTES], n: u8) -> [u8; line::CODED_BYTES]
+fn seal(bytes: &mut [u8; line::CODED_BYTES], n: u8)
     requires { n ≤ frame.longest_data }
-    ensures { result ≡ set (set bytes (n + 2) (check.check (frame.byte_bits (take (n + 2) bytes)) / 128)) (n + 3) (check.check (frame.byte_bits (take (n + 2) bytes)) % 128 * 2) }
+    ensures { bytes.new ≡ set (set bytes.old (n + 2) (check.check (frame.byte_bits (take (n + 2) bytes.old)) / 128)) (n + 3) (check.check (frame.byte_bits (take (n + 2) bytes.old)) % 128 * 2) }
 {
     let end = n as usize + 2;
     let check = frame_check::check_of(&bytes[..end]);
-    let mut t = bytes;
-    t[end] = (check / 128) as u8;
-    t[end + 1] = (check % 128 * 2) as u8;
-    t
+    bytes[end] = (check / 128) as u8;
+    bytes[end + 1] = (check % 128 * 2) as u8;
 }
 
 // A frame by its first two bytes, with n data bytes of channel c's, from pointer + 1, and its check.
@@ -137,10 +125,8 @@ fn coded_with(m: &[u8; 256], c: u8, high: u8, low: u8, n: u8) -> Coded
     let b = channels::buffer_of(m, c);
     let mut bytes = headed(high, low);
     copy(&mut bytes, m, b.pointer, n);
-    Coded {
-        n: n,
-        bytes: sealed(bytes, n),
-    }
+    seal(&mut bytes, n);
+    Coded { n, bytes }
 }
 
 // The data bytes that channel c's length holds.
@@ -149,8 +135,7 @@ fn data_of(m: &[u8; 256], c: u8) -> u8
     ensures value { result ≡ rule.data_in (channel.buffer_of m.now c).length }
     ensures range { result ≤ frame.longest_data }
 {
-    let b = channels::buffer_of(m, c);
-    data_in(b.length)
+    data_in(channels::buffer_of(m, c).length)
 }
 
 // The frame that channel c sends: its tag and command, M_L - 1 data bytes from pointer + 1, and the check. A request has no data.

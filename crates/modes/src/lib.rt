@@ -10,34 +10,19 @@ use rules::{Activity, Mode};
 pub fn is_active(a: Activity) -> bool
     ensures { result ≡ rule.is_active a.mode }
 {
-    let mode = a.mode;
-    match mode {
-        Mode::Idle => false,
-        Mode::Active => true,
-        Mode::Asleep => false, // a slot changes nothing
-    }
+    matches!(a.mode, Mode::Active)
 }
 
 #[tactic(auto, using(std::proofs::lemmas::Bool::Decides::nat_tests), unfolding(rules::specs::Definitions::State::is_asleep))]
 pub fn is_asleep(a: Activity) -> bool
     ensures { result ≡ rule.is_asleep a.mode }
 {
-    let mode = a.mode;
-    match mode {
-        Mode::Idle => false, // it answers the host
-        Mode::Active => false,
-        Mode::Asleep => true,
-    }
+    matches!(a.mode, Mode::Asleep)
 }
 
 #[tactic(auto, using(std::proofs::lemmas::Bool::Decides::nat_tests), unfolding(rules::specs::Definitions::State::is_idle))]
 pub fn is_idle(a: Activity) -> bool
     ensures { result ≡ rule.is_idle a.mode }
 {
-    let mode = a.mode;
-    match mode {
-        Mode::Idle => true,
-        Mode::Active => false, // even while an idle waits
-        Mode::Asleep => false,
-    }
+    matches!(a.mode, Mode::Idle)
 }

@@ -12,14 +12,7 @@ use rules::{Phase, Place, Progress, Reception, Role};
 pub fn under_way(p: Place) -> bool
     ensures { result ≡ rule.under_way p }
 {
-    let phase = p.phase;
-    match phase {
-        Phase::Quiet => false,
-        Phase::Start => true,
-        Phase::Body => true,
-        Phase::Acknowledge => true,
-        Phase::End => true,
-    }
+    !matches!(p.phase, Phase::Quiet)
 }
 
 // Sender from its first driven slot on; asker once its request is answered; replier; receiver of any other frame under way.
@@ -47,13 +40,7 @@ pub fn role_of(p: Progress, replies: bool, here: Place) -> Role
 pub fn receives(x: Role) -> bool
     ensures { result ≡ service_rule.receives x }
 {
-    match x {
-        Role::Nobody => false,
-        Role::Receiver => true,
-        Role::Sender => false,
-        Role::Asker => true,
-        Role::Replier => false,
-    }
+    matches!(x, Role::Receiver | Role::Asker)
 }
 
 // Whether the place lies between identifier and end of data.
@@ -61,54 +48,39 @@ pub fn receives(x: Role) -> bool
 fn in_body(p: Place) -> bool
     ensures { result ≡ rule.in_body p }
 {
-    let phase = p.phase;
-    match phase {
-        Phase::Quiet => false,
-        Phase::Start => false,
-        Phase::Body => true,
-        Phase::Acknowledge => false,
-        Phase::End => false,
-    }
+    matches!(p.phase, Phase::Body)
 }
 
 // Whether the frame stands between two nibbles, with so many whole.
 #[tactic(auto, using(std::proofs::lemmas::Bool::Decides::nat_tests), unfolding(rules::specs::Definitions::Reception::behind))]
-fn behind(r: Reception, whole: u8) -> bool
-    ensures { result ≡ rule.behind r whole }
+fn behind(r: &Reception, whole: u8) -> bool
+    ensures { result ≡ rule.behind r.now whole }
 {
-    let p = r.place;
-    if in_body(p) {
-        return (r.nibbles == whole) & (p.at == 0);
-    }
-    false
+    in_body(r.place) && r.nibbles == whole && r.place.at == 0
 }
 
 // Whether a clean start sequence has just ended: the next slot is the identifier's first.
 #[tactic(auto, using(std::proofs::lemmas::Bool::Decides::nat_tests), unfolding(rules::specs::Definitions::Reception::start_ended))]
-pub fn start_ended(r: Reception) -> bool
-    ensures { result ≡ rule.start_ended r }
+pub fn start_ended(r: &Reception) -> bool
+    ensures { result ≡ rule.start_ended r.now }
 {
     behind(r, 0)
 }
 
 // Whether the last command slot has just been taken: identifier and command are four nibbles.
 #[tactic(auto, using(std::proofs::lemmas::Bool::Decides::nat_tests), unfolding(rules::specs::Definitions::Reception::command_ended))]
-pub fn command_ended(r: Reception) -> bool
-    ensures { result ≡ rule.command_ended r }
+pub fn command_ended(r: &Reception) -> bool
+    ensures { result ≡ rule.command_ended r.now }
 {
     behind(r, 4)
 }
 
 // Whether R/W has just been taken, in a frame with EXT 1 and R/W 1: three bits of the fourth nibble.
 #[tactic(auto, using(std::proofs::lemmas::Bool::Decides::nat_tests), unfolding(rules::specs::Definitions::Reception::reads_asked))]
-pub fn reads_asked(r: Reception) -> bool
-    ensures { result ≡ rule.reads_asked r }
+pub fn reads_asked(r: &Reception) -> bool
+    ensures { result ≡ rule.reads_asked r.now }
 {
-    let p = r.place;
-    if in_body(p) {
-        return (r.nibbles == 3) & ((p.at == 3) & ((r.bits / 4 % 2 == 1) & (r.bits % 2 == 1)));
-    }
-    false
+    in_body(r.place) && r.nibbles == 3 && r.place.at == 3 && r.bits / 4 % 2 == 1 && r.bits % 2 == 1
 }
 
 // Byte 1 of a reply: the identifier bits heard, EXT 1, the RAK among the bits of the nibble under way, R/W 1, RTR 0.
@@ -120,9 +92,8 @@ fn answering(heard: u8, bits: u8) -> u8
 
 // Byte 1 of a reply to it: identifier bits 3 to 0, EXT 1, RAK as heard, R/W 1, RTR 0.
 #[tactic(auto, using(std::proofs::lemmas::Bool::Decides::nat_tests), unfolding(rules::specs::Definitions::Reception::reply_low))]
-pub fn reply_low(r: Reception) -> u8
-    ensures { result ≡ rule.reply_low r }
+pub fn reply_low(r: &Reception) -> u8
+    ensures { result ≡ rule.reply_low r.now }
 {
-    let b = r.bytes;
-    answering(b[1], r.bits)
+    answering(r.bytes[1], r.bits)
 }

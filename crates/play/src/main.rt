@@ -3,7 +3,6 @@
 
 ghost use Rattle.std.specs.Prelude.{◌≡◌, length};
 
-use bench_record::Played;
 use std::io;
 use std::io::{Read, Write};
 
@@ -13,7 +12,7 @@ fn main(rt: HostRuntime) -> io::Result<()> {
     play(&mut io::writer(&rt), &text[..n.min(65536) as usize])
 }
 
-// Room for any listing.
+// Room for any listing. Fixed memory, as the session's: no program of this repository allocates.
 fn room() -> [u8; player::ROOM]
     ensures { 327840 ≡ length result }
 {
@@ -23,7 +22,7 @@ fn room() -> [u8; player::ROOM]
 fn play<W: Write>(out: &mut W, s: &[u8]) -> io::Result<()> {
     let mut listing = room();
     match player::play(s, &mut listing) {
-        Played::Listed(n) => out.write_all(&listing[..n]),
-        Played::Short => Ok(()),
+        Some(n) => out.write_all(&listing[..n]),
+        None => Ok(()),
     }
 }

@@ -1,20 +1,21 @@
 // The bench player: a session's bytes in, its listing out (01, Session and listing).
 #![tactic(auto)]
 
-ghost use Rattle.std.specs.Prelude.{◌≡◌, ◌+◌, ◌*◌, ◌≤◌, length, set};
+ghost use Rattle.std.specs.Prelude.{◌≡◌, true, ◌+◌, ◌*◌, ◌≤◌, length, set};
 ghost use Rattle.session.specs.Reading as reading;
+ghost use Rattle.rules.specs.Definitions.State as state_rule;
 ghost use Rattle.rules.specs.Definitions.Run as run;
 ghost use Rattle.rules.specs.Definitions.Answers as answers;
 ghost use Rattle.listing.specs.Listing as text;
 ghost use Rattle.listing.specs.Laid.{Laid};
-ghost use Rattle.row.specs.Row as row_rule;
-ghost use Rattle.within.specs.Lent as lent;
 ghost use Rattle.bench_record.specs.Record as rule;
+ghost use Rattle.reading_place.specs.Items.{rest_of};
+ghost use Rattle.player.specs.Rows as rows;
 
-use bench_record::Played;
 use listing::Edge;
-use session::{End, Event, Fault, Header, Item};
-use within::Answered;
+use reading_place::{Events, Session};
+use rules::{Controller, Refusal};
+use session::{Bad, Event};
 
 // Room for any listing: 4,096 events, a line before them and one behind.
 pub const ROOM: usize = 327840;
@@ -40,15 +41,14 @@ fn lay(room: &mut [u8], at: usize, text: &[u8]) -> usize
     requires { at + length text.now ≤ 327840 }
     ensures { Laid room.old at text.now room.new result }
 {
-    let mut k = 0;
-    while k < text.len() {
-        put(room, at + k, text[k]);
-        k += 1;
+    for (k, b) in text.iter().enumerate() {
+        put(room, at + k, *b);
     }
-    at + k
+    at + text.len()
 }
 
-// An event's line. In room that may be too short it is made aside.
+// An event's line. In room that may be too short it is made aside. The refusal's number and the value stay two numbers: the lent controller answers so, also to C.
+// Lines are laid by hand into fixed room: written by `Display` an event took about twice the instructions (687 against 348).
 #[tactic(auto, using(std::proofs::lemmas::Bool::Decides::nat_tests, listing::proofs::Laws::line_laid, crate::proofs::Aside::line_copied))]
 fn lay_line(room: &mut [u8], at: usize, index: u16, e: Event, refused: u8, value: u8) -> usize
     requires { at + text.longest_line ≤ 327840 }
@@ -80,104 +80,90 @@ fn lay_edge(room: &mut [u8], at: usize, l: Edge) -> usize
 
 // The line of a fault, with its place and how many bytes were looked at there.
 #[tactic(auto, using(std::proofs::lemmas::Bool::Decides::nat_tests))]
-fn lay_fault(room: &mut [u8], at: usize, f: Fault, place: usize, looked: usize) -> usize
+fn lay_fault(room: &mut [u8], at: usize, bad: Bad) -> usize
     requires { at + text.longest_line ≤ 327840 }
-    ensures laid { Laid room.old at (text.bad_line (reading.fault_number f) place looked) room.new result }
+    ensures laid { Laid room.old at (text.bad_line (reading.fault_number bad.why) bad.at bad.looked) room.new result }
     ensures bound { result ≤ at + text.longest_line }
 {
-    lay_edge(room, at, Edge::Bad(session::fault_number(f), place, looked))
+    lay_edge(room, at, Edge::Bad(u8::from(bad.why), bad.at, bad.looked))
 }
 
 // ---- an event
 
-// A mark has no effect.
-#[tactic(auto, using(std::proofs::lemmas::Bool::Decides::nat_tests), unfolding(bench_record::specs::Record::answer_to, rules::specs::Definitions::Run::accept, within::specs::Lent::answer))]
-fn answer(m: &mut [u8; 256], row: &mut [u8; row::ROW], e: Event) -> Answered
-    ensures { lent.answer result m.new row.new ≡ rule.answer_to (answers.controller m.old (row_rule.core_of row.old)) e }
+// Every state that is reached is in its ranges, so that they are not asked. A mark has no effect.
+#[tactic(auto, using(std::proofs::lemmas::Bool::Decides::nat_tests), unfolding(bench_record::specs::Record::answer_to, rules::specs::Definitions::Run::step, rules::specs::Definitions::Run::accept, rules::specs::Definitions::Answers::done, rules::specs::Definitions::Answers::lent, rules::specs::Definitions::Answers::refused_by, rules::specs::Definitions::Answers::value_of))]
+fn answer(c: &mut Controller, e: Event) -> Result<u8, Refusal>
+    requires range { state_rule.in_range c.old ≡ true }
+    ensures { answers.lent result c.new ≡ rule.answer_to c.old e }
 {
     match e {
-        Event::Reset => within::pin_reset(m, row),
-        Event::Write(address, value) => within::host_write(m, row, address, value),
-        Event::Read(address) => within::host_read_on(m, row, address),
-        Event::Slot(levels) => within::slot(m, row, levels),
-        Event::Mark(_) => Answered {
-            refused: 0,
-            value: 0,
-        },
+        Event::Reset => controller::pin_reset(c)?,
+        Event::Write(address, value) => {
+            host::host_write_in_range(&mut c.memory, &mut c.core, address, value)?;
+        }
+        Event::Read(address) => {
+            return host_read::host_read_in_range(&c.memory, &c.core, address);
+        }
+        Event::Slot(levels) => return slots::slot_in_range(&mut c.memory, &mut c.core, levels),
+        Event::Mark(_) => {}
     }
+    Ok(0)
 }
 
 // An event, and its line at a place; the answer is the place behind it.
 #[tactic(auto, using(std::proofs::lemmas::Bool::Decides::nat_tests, crate::proofs::Events::event_laid, crate::proofs::Events::event_next))]
-fn play_event(
-    m: &mut [u8; 256],
-    row: &mut [u8; row::ROW],
-    index: u16,
-    e: Event,
-    room: &mut [u8],
-    at: usize,
-) -> usize
-    requires { at + text.longest_line ≤ 327840 }
-    ensures state { answers.controller m.new (row_rule.core_of row.new) ≡ (rule.answer_to (answers.controller m.old (row_rule.core_of row.old)) e).next }
-    ensures laid { Laid room.old at (text.line index e (rule.answer_to (answers.controller m.old (row_rule.core_of row.old)) e).refused (rule.answer_to (answers.controller m.old (row_rule.core_of row.old)) e).value) room.new result }
+fn play_event(c: &mut Controller, index: u16, e: Event, room: &mut [u8], at: usize) -> usize
+    requires room { at + text.longest_line ≤ 327840 }
+    requires range { state_rule.in_range c.old ≡ true }
+    ensures state { c.new ≡ (rule.answer_to c.old e).next }
+    ensures laid { Laid room.old at (text.line index e (rule.answer_to c.old e).refused (rule.answer_to c.old e).value) room.new result }
     ensures bound { result ≤ at + text.longest_line }
 {
-    let a = answer(m, row, e);
-    lay_line(room, at, index, e, a.refused, a.value)
+    let a = answer(c, e);
+    lay_line(
+        room,
+        at,
+        index,
+        e,
+        answers::refused_by(a),
+        answers::value_of(a),
+    )
 }
 
 // ---- a session
 
-// What follows the last event.
-#[tactic(auto, using(std::proofs::lemmas::Bool::Decides::nat_tests), unfolding(bench_record::specs::Record::closing))]
-fn put_closing(s: &[u8], from: usize, count: u16, room: &mut [u8], at: usize) -> usize
-    requires { at + text.longest_line ≤ 327840 }
-    ensures laid { Laid room.old at (rule.closing count (reading.end_at s.now from)) room.new result }
-    ensures bound { result ≤ at + text.longest_line }
+// The events, each with the controller that the last one left, and what closes the listing: a fault, or the end.
+#[tactic(auto, using(std::proofs::lemmas::Bool::Decides::nat_tests, bench_record::proofs::Laws::begun, crate::proofs::Rows::one_more, crate::proofs::Rows::fault_last, crate::proofs::Rows::end_last, bench_record::proofs::Laws::laid_all, crate::proofs::Reached::reached_fresh, crate::proofs::Reached::reached_range))]
+fn play_events(events: Events<'_>, count: u16, room: &mut [u8], at: usize) -> usize
+    requires { at + rows.room_for (rest_of events) ≤ 327840 }
+    ensures laid { Laid room.old at (rows.rows run.fresh 0 count (rest_of events.entry)) room.new result }
+    ensures bound { result ≤ at + rows.room_for (rest_of events.entry) }
 {
-    match session::end_at(s, from) {
-        End::Clean => lay_edge(room, at, Edge::End(count)),
-        End::Bad(f, p, looked) => lay_fault(room, at, f, p, looked),
-    }
-}
-
-// The events, each with the controller that the last one left, and what closes the listing.
-#[tactic(auto, using(std::proofs::lemmas::Bool::Decides::nat_tests, bench_record::proofs::Laws::Goes, bench_record::proofs::Laws::begun, bench_record::proofs::Laws::other_rest, bench_record::proofs::Laws::first_rest, bench_record::proofs::Laws::bad_line_lem, bench_record::proofs::Laws::stepped, bench_record::proofs::Laws::last_line, bench_record::proofs::Laws::laid_all, crate::proofs::Indices::step_fits))]
-fn play_events(s: &[u8], count: u16, first: usize, room: &mut [u8], at: usize) -> usize
-    requires { at + 80 * count + 80 ≤ 327840 }
-    ensures laid { Laid room.old at (rule.body run.fresh 0 count (reading.events_at count s.now first)) room.new result }
-    ensures bound { result ≤ at + 80 * count + 80 }
-{
-    let mut m = [0u8; 256];
-    let mut row = [0u8; row::ROW];
-    within::fresh(&mut m, &mut row);
-    let mut from = first;
+    let mut c = controller::fresh();
     let mut place = at;
     let mut index = 0u16;
-    while index < count {
-        match reading_place::event_from(s, from) {
-            Item::Bad(f, p, looked) => return lay_fault(room, place, f, p, looked),
-            Item::Next(e, next) => {
-                place = play_event(&mut m, &mut row, index, e, room, place);
-                from = next;
-            }
+    for item in events {
+        match item {
+            Ok(event) => place = play_event(&mut c, index, event, room, place),
+            Err(bad) => return lay_fault(room, place, bad),
         }
         index += 1;
     }
-    put_closing(s, from, count, room, place)
+    lay_edge(room, place, Edge::End(count))
 }
 
 // The listing, or as much of it as the room has places for; the answer is the place behind all of it.
-#[tactic(auto, using(std::proofs::lemmas::Bool::Decides::nat_tests, bench_record::proofs::Laws::count_most, bench_record::proofs::Laws::header_bad, bench_record::proofs::Laws::header_good))]
+#[tactic(auto, using(std::proofs::lemmas::Bool::Decides::nat_tests, bench_record::proofs::Laws::count_most, crate::proofs::Rows::header_bad, crate::proofs::Rows::header_good, crate::proofs::Rows::rows_room))]
 fn put_listing(s: &[u8], room: &mut [u8]) -> usize
     ensures laid { Laid room.old 0 (rule.listing_of s.now) room.new result }
     ensures bound { result ≤ 327840 }
 {
-    match session::header_at(s, 0) {
-        Header::Bad(f, p, looked) => lay_fault(room, 0, f, p, looked),
-        Header::Good(count, next) => {
+    let mut session = Session::new(s);
+    match session.header() {
+        Err(bad) => lay_fault(room, 0, bad),
+        Ok(count) => {
             let at = lay_edge(room, 0, Edge::Count(count));
-            play_events(s, count, next, room, at)
+            play_events(session.events(count), count, room, at)
         }
     }
 }
@@ -195,21 +181,21 @@ fn listing_length(s: &[u8]) -> usize
 
 // In room that may be too short: first for the listing's length alone, so that a refused call writes nothing.
 #[tactic(auto, using(std::proofs::lemmas::Bool::Decides::nat_tests, bench_record::proofs::Laws::listed, bench_record::proofs::Laws::unlisted))]
-fn play_twice(s: &[u8], room: &mut [u8]) -> Played
+fn play_twice(s: &[u8], room: &mut [u8]) -> Option<usize>
     ensures answer { result ≡ rule.played (length room.old) (rule.listing_of s.now) }
     ensures room { room.new ≡ rule.played_room room.old (rule.listing_of s.now) }
 {
     let n = listing_length(s);
     if room.len() < n {
-        return Played::Short;
+        return None;
     }
     put_listing(s, room);
-    Played::Listed(n)
+    Some(n)
 }
 
 // The listing of a session, in lent room; or 13, and nothing is written.
 #[tactic(auto, using(std::proofs::lemmas::Bool::Decides::nat_tests, bench_record::proofs::Laws::listed))]
-pub fn play(s: &[u8], room: &mut [u8]) -> Played
+pub fn play(s: &[u8], room: &mut [u8]) -> Option<usize>
     ensures answer { result ≡ rule.played (length room.old) (rule.listing_of s.now) }
     ensures room { room.new ≡ rule.played_room room.old (rule.listing_of s.now) }
 {
@@ -217,5 +203,5 @@ pub fn play(s: &[u8], room: &mut [u8]) -> Played
         return play_twice(s, room);
     }
     let n = put_listing(s, room);
-    Played::Listed(n)
+    Some(n)
 }

@@ -8,10 +8,10 @@ ghost use Rattle.rules.specs.Definitions.Answers as answers;
 use registers::Map;
 use rules::Core;
 
-// A row a line, in the order of `ranges`.
+// A row a line, in the order of `ranges`. The rows are joined by `&`: `&&` was tried, and the proof did not close (goal `returns`).
 #[tactic(auto, using(std::proofs::lemmas::Bool::Decides::nat_tests, registers::proofs::Dividers::one_slot, crate::proofs::Rows::joined_within), unfolding(rules::specs::Definitions::State::in_range, rules::specs::Definitions::State::ranges, line::specs::Frame::size))]
-pub fn in_range(m: &[u8; 256], k: Core) -> bool
-    ensures { result ≡ rule.in_range (answers.controller m.now k) }
+pub fn in_range(m: &[u8; 256], k: &Core) -> bool
+    ensures { result ≡ rule.in_range (answers.controller m.now k.now) }
 {
     let divider = Map::divider(m[Map::DIAGNOSIS_CONTROL]);
     (k.report.sending.count <= 15)

@@ -3,7 +3,6 @@
 #![tactic(auto)]
 
 ghost use Rattle.std.specs.Prelude.{◌≡◌, ◌<◌, ◌+◌, ◌*◌, ◌/◌, ◌%◌};
-ghost use Rattle.rules.specs.Definitions.Channels as channels_rule;
 ghost use Rattle.rules.specs.Definitions.Reception as rule;
 
 use rules::{Phase, Place, Reception, Winner};
@@ -13,28 +12,11 @@ use rules::{Phase, Place, Reception, Winner};
 fn at_place(phase: Phase, at: u8) -> Place
     ensures { result ≡ rule.at_place phase at }
 {
-    Place {
-        phase: phase,
-        at: at,
-    }
+    Place { phase, at }
 }
 
-// No channel takes the frame.
-#[tactic(auto, using(std::proofs::lemmas::Bool::Decides::nat_tests), unfolding(rules::specs::Definitions::Channels::nobody))]
-fn nobody() -> Winner
-    ensures { result ≡ channels_rule.nobody }
-{
-    Winner {
-        matched: false,
-        channel: 0,
-        no_acknowledge: false,
-        pointer: 0,
-        length: 0,
-    }
-}
-
-// No frame under way.
-#[tactic(auto, using(std::proofs::lemmas::Bool::Decides::nat_tests), unfolding(rules::specs::Definitions::Reception::quiet))]
+// No frame under way, and no channel that takes it.
+#[tactic(auto, using(std::proofs::lemmas::Bool::Decides::nat_tests), unfolding(rules::specs::Definitions::Reception::quiet, rules::specs::Definitions::Channels::nobody))]
 pub fn quiet() -> Reception
     ensures { result ≡ rule.quiet }
 {
@@ -43,45 +25,44 @@ pub fn quiet() -> Reception
         nibbles: 0,
         bits: 0,
         bytes: [0u8; line::CODED_BYTES],
-        winner: nobody(),
+        winner: Winner {
+            matched: false,
+            channel: 0,
+            no_acknowledge: false,
+            pointer: 0,
+            length: 0,
+        },
     }
 }
 
 // ---- the frame goes on
 
 // The next slot of the same phase.
-#[tactic(auto, using(std::proofs::lemmas::Bool::Decides::nat_tests), unfolding(rules::specs::Definitions::Reception::moved))]
-fn moved(r: Reception) -> Reception
-    requires { r.place.at < 255 }
-    ensures { result ≡ rule.moved r }
+#[tactic(auto, using(std::proofs::lemmas::Bool::Decides::nat_tests), unfolding(rules::specs::Definitions::Reception::moved, rules::specs::Definitions::Reception::at_place))]
+fn move_on(r: &mut Reception)
+    requires { r.old.place.at < 255 }
+    ensures { r.new ≡ rule.moved r.old }
 {
-    let p = r.place;
-    let phase = p.phase;
-    let mut t = r;
-    t.place = at_place(phase, p.at + 1);
-    t
+    r.place.at += 1;
 }
 
 // The first slot of a phase, with no bits.
 #[tactic(auto, using(std::proofs::lemmas::Bool::Decides::nat_tests), unfolding(rules::specs::Definitions::Reception::entered))]
-fn entered(r: Reception, phase: Phase) -> Reception
-    ensures { result ≡ rule.entered r phase }
+fn enter(r: &mut Reception, phase: Phase)
+    ensures { r.new ≡ rule.entered r.old phase }
 {
-    let mut t = r;
-    t.place = at_place(phase, 0);
-    t.bits = 0;
-    t
+    r.place = at_place(phase, 0);
+    r.bits = 0;
 }
 
 // The next slot, with one bit more of the nibble under way or of the acknowledge.
-#[tactic(auto, using(std::proofs::lemmas::Bool::Decides::nat_tests), unfolding(rules::specs::Definitions::Reception::bit_taken))]
-fn bit_taken(r: Reception, v: u8) -> Reception
-    requires { r.place.at < 255 }
-    ensures { result ≡ rule.bit_taken r v }
+#[tactic(auto, using(std::proofs::lemmas::Bool::Decides::nat_tests), unfolding(rules::specs::Definitions::Reception::bit_taken, rules::specs::Definitions::Reception::moved, rules::specs::Definitions::Reception::at_place))]
+fn take_bit(r: &mut Reception, v: u8)
+    requires { r.old.place.at < 255 }
+    ensures { r.new ≡ rule.bit_taken r.old v }
 {
-    let mut t = moved(r);
-    t.bits = r.bits % 8 * 2 + v % 2;
-    t
+    move_on(r);
+    r.bits = r.bits % 8 * 2 + v % 2;
 }
 
 // A byte with its low half replaced.
@@ -90,21 +71,6 @@ fn with_low_half(byte: u8, nibble: u8) -> u8
     ensures { result ≡ byte / 16 * 16 + nibble % 16 }
 {
     byte / 16 * 16 + nibble % 16
-}
-
-// The bytes with nibble k, high half first.
-#[tactic(auto, using(std::proofs::lemmas::Bool::Decides::nat_tests), unfolding(rules::specs::Definitions::Reception::with_nibble))]
-fn with_nibble(bytes: [u8; line::CODED_BYTES], k: u8, nibble: u8) -> [u8; line::CODED_BYTES]
-    ensures { result ≡ rule.with_nibble bytes k nibble }
-{
-    let i = (k / 2) as usize % line::CODED_BYTES;
-    let mut t = bytes;
-    if k % 2 == 0 {
-        t[i] = nibble % 16 * 16;
-        return t;
-    }
-    t[i] = with_low_half(bytes[i], nibble);
-    t
 }
 
 // One nibble more; the count stops at its largest.
@@ -118,34 +84,37 @@ fn more_nibbles(n: u8) -> u8
     line::MOST_NIBBLES
 }
 
-// The four bits that were taken, laid behind the whole nibbles.
-#[tactic(auto, using(std::proofs::lemmas::Bool::Decides::nat_tests), unfolding(rules::specs::Definitions::Reception::bits_laid))]
-fn bits_laid(r: Reception) -> Reception
-    ensures { result ≡ rule.bits_laid r }
+// The four bits that were taken, laid behind the whole nibbles, the high half of a byte first.
+#[tactic(auto, using(std::proofs::lemmas::Bool::Decides::nat_tests), unfolding(rules::specs::Definitions::Reception::bits_laid, rules::specs::Definitions::Reception::with_nibble))]
+fn lay_bits(r: &mut Reception)
+    ensures { r.new ≡ rule.bits_laid r.old }
 {
-    let b = r.bytes;
-    let bytes = with_nibble(b, r.nibbles, r.bits);
-    let mut t = r;
-    t.bytes = bytes;
-    t
+    let i = usize::from(r.nibbles / 2) % line::CODED_BYTES;
+    let nibble = r.bits;
+    if r.nibbles % 2 == 0 {
+        r.bytes[i] = nibble % 16 * 16;
+    } else {
+        r.bytes[i] = with_low_half(r.bytes[i], nibble);
+    }
 }
 
 // A nibble closed by a proper pair.
-#[tactic(auto, using(std::proofs::lemmas::Bool::Decides::nat_tests), unfolding(rules::specs::Definitions::Reception::nibble_taken))]
-fn nibble_taken(r: Reception) -> Reception
-    ensures { result ≡ rule.nibble_taken r }
+#[tactic(auto, using(std::proofs::lemmas::Bool::Decides::nat_tests), unfolding(rules::specs::Definitions::Reception::nibble_taken, rules::specs::Definitions::Reception::entered, rules::specs::Definitions::Reception::at_place, rules::specs::Definitions::Reception::bits_laid))]
+fn take_nibble(r: &mut Reception)
+    ensures { r.new ≡ rule.nibble_taken r.old }
 {
-    let mut t = entered(bits_laid(r), Phase::Body);
-    t.nibbles = more_nibbles(r.nibbles);
-    t
+    lay_bits(r);
+    enter(r, Phase::Body);
+    r.nibbles = more_nibbles(r.nibbles);
 }
 
 // The end of data: the check's last three bits are laid behind its twelve, with a zero bit behind them.
 #[tactic(auto, using(std::proofs::lemmas::Bool::Decides::nat_tests), unfolding(rules::specs::Definitions::Reception::data_ended))]
-fn data_ended(r: Reception) -> Reception
-    ensures { result ≡ rule.data_ended r }
+fn end_data(r: &mut Reception)
+    ensures { r.new ≡ rule.data_ended r.old }
 {
-    entered(bits_laid(r), Phase::Acknowledge)
+    lay_bits(r);
+    enter(r, Phase::Acknowledge);
 }
 
 // The first slot of a start is taken.
@@ -153,75 +122,29 @@ fn data_ended(r: Reception) -> Reception
 pub fn begun() -> Reception
     ensures { result ≡ rule.begun }
 {
-    let mut t = quiet();
-    t.place = at_place(Phase::Start, 1);
-    t
+    Reception {
+        place: at_place(Phase::Start, 1),
+        ..quiet()
+    }
 }
 
-// The start goes on, or the identifier is next.
-#[tactic(auto, using(std::proofs::lemmas::Bool::Decides::nat_tests), unfolding(rules::specs::Definitions::Reception::follow_start))]
-fn follow_start(r: Reception) -> Reception
-    ensures { result ≡ rule.follow_start r }
+// The frame once a sample that is no fault is taken. The start goes on, or the identifier is next. A plain bit or first half is kept; a second half closes a
+// nibble, or ends the data where it equals the first. The first acknowledge slot is kept for the second. The end of frame goes on; its eighth slot is the last.
+#[tactic(auto, using(std::proofs::lemmas::Bool::Decides::nat_tests), unfolding(rules::specs::Definitions::Reception::followed, rules::specs::Definitions::Reception::follow_in, rules::specs::Definitions::Reception::follow_start, rules::specs::Definitions::Reception::follow_body, rules::specs::Definitions::Reception::follow_acknowledge, rules::specs::Definitions::Reception::follow_end))]
+pub fn follow(r: &mut Reception, v: u8)
+    ensures { r.new ≡ rule.followed r.old v }
 {
-    let p = r.place;
-    if p.at < 9 {
-        return moved(r);
-    }
-    entered(r, Phase::Body)
-}
-
-// A plain bit or first half is kept; a second half closes a nibble, or ends the data where it equals the first.
-#[tactic(auto, using(std::proofs::lemmas::Bool::Decides::nat_tests), unfolding(rules::specs::Definitions::Reception::follow_body))]
-fn follow_body(r: Reception, v: u8) -> Reception
-    ensures { result ≡ rule.follow_body r v }
-{
-    let p = r.place;
-    if p.at < 4 {
-        return bit_taken(r, v);
-    }
-    if v == r.bits % 2 {
-        return data_ended(r);
-    }
-    nibble_taken(r)
-}
-
-// The first acknowledge slot is kept for the second.
-#[tactic(auto, using(std::proofs::lemmas::Bool::Decides::nat_tests), unfolding(rules::specs::Definitions::Reception::follow_acknowledge))]
-fn follow_acknowledge(r: Reception, v: u8) -> Reception
-    ensures { result ≡ rule.follow_acknowledge r v }
-{
-    let p = r.place;
-    if p.at == 0 {
-        return bit_taken(r, v);
-    }
-    entered(r, Phase::End)
-}
-
-// The end of frame goes on; its eighth slot is the last.
-#[tactic(auto, using(std::proofs::lemmas::Bool::Decides::nat_tests), unfolding(rules::specs::Definitions::Reception::follow_end))]
-fn follow_end(r: Reception) -> Reception
-    ensures { result ≡ rule.follow_end r }
-{
-    let p = r.place;
-    if p.at < 7 {
-        return moved(r);
-    }
-    r
-}
-
-// The frame once a sample that is no fault is taken.
-#[tactic(auto, using(std::proofs::lemmas::Bool::Decides::nat_tests), unfolding(rules::specs::Definitions::Reception::followed, rules::specs::Definitions::Reception::follow_in))]
-pub fn followed(r: Reception, v: u8) -> Reception
-    ensures { result ≡ rule.followed r v }
-{
-    let p = r.place;
-    let phase = p.phase;
-    match phase {
-        Phase::Quiet => begun(),
-        Phase::Start => follow_start(r),
-        Phase::Body => follow_body(r, v),
-        Phase::Acknowledge => follow_acknowledge(r, v),
-        Phase::End => follow_end(r),
+    match r.place.phase {
+        Phase::Quiet => *r = begun(),
+        Phase::Start if r.place.at < 9 => move_on(r),
+        Phase::Start => enter(r, Phase::Body),
+        Phase::Body if r.place.at < 4 => take_bit(r, v),
+        Phase::Body if v == r.bits % 2 => end_data(r),
+        Phase::Body => take_nibble(r),
+        Phase::Acknowledge if r.place.at == 0 => take_bit(r, v),
+        Phase::Acknowledge => enter(r, Phase::End),
+        Phase::End if r.place.at < 7 => move_on(r),
+        Phase::End => {}
     }
 }
 

@@ -2,18 +2,14 @@
 use Prim.Native.Nat.{ℕ, ◌+◌, ◌*◌, ◌/◌, ◌%◌, ◌^◌, ◌≤◌, ◌<◌}
 use mathlib.Core.Path.{◌≡◌, sym, ◌∙◌}
 use native.Mathlib.Omega.{arith}
-use lib.Pow.{pow_pos}
 use Rattle.line.proofs.Tables.{values, at}
 use Rattle.diagnosis.specs.Control.{divider, rate}
+use Rattle.diagnosis.proofs.Findings.{divider_positive}
 
 -- the sixteen shifts are the sixteen powers
 pub shifted : (k : ℕ) → k < 16 → 64 * 2 ^ k % 4294967296 ≡ 2 ^ (6 + k)
 unfolding values
 shifted k h = sym (at (λ (q : ℕ). 64 * 2 ^ q % 4294967296) 0 16 k h) ∙ at (λ (q : ℕ). 2 ^ (6 + q)) 0 16 k h
-
-pub divider_positive : (control : ℕ) → 0 < divider control
-unfolding divider
-divider_positive control = pow_pos (6 + rate control)
 
 -- a period has a slot
 pub one_slot : (control : ℕ) {d : ℕ} → d ≡ divider control → 1 ≤ d

@@ -182,8 +182,8 @@ impl Map {
     pub fn read_only(address: usize) -> bool
         ensures { result ≡ rule.read_only address }
     {
-        ((Map::LINE_STATUS <= address) & (address <= Map::LAST_ERROR_STATUS))
-            | (address == Map::INTERRUPT_STATUS)
+        (Map::LINE_STATUS <= address && address <= Map::LAST_ERROR_STATUS)
+            || address == Map::INTERRUPT_STATUS
     }
 
     // Whether a host may only write the address.
@@ -191,7 +191,7 @@ impl Map {
     pub fn write_only(address: usize) -> bool
         ensures { result ≡ rule.write_only address }
     {
-        (address == Map::COMMAND) | (address == Map::INTERRUPT_RESET)
+        address == Map::COMMAND || address == Map::INTERRUPT_RESET
     }
 
     // Whether a host may neither read nor write the address.
@@ -199,8 +199,7 @@ impl Map {
     pub fn reserved(address: usize) -> bool
         ensures { result ≡ rule.reserved address }
     {
-        (address == Map::RESERVED)
-            | ((Map::RESERVED_FROM <= address) & (address <= Map::RESERVED_TO))
+        address == Map::RESERVED || (Map::RESERVED_FROM <= address && address <= Map::RESERVED_TO)
     }
 
     // Whether the reserved bits of 0x01 (version 001) and of 0x03 (zeros) are as they must be. The others are kept as written (house).
@@ -314,15 +313,13 @@ impl Map {
 
     // Reset of the registers in the memory map; channels and mailbox stay.
     #[tactic(auto, using(std::proofs::lemmas::Bool::Decides::nat_tests), unfolding(rules::specs::Definitions::Mailbox::reset_memory, rules::specs::Definitions::Mailbox::rows_written, rules::specs::Definitions::Registers::reset_values, rules::specs::Definitions::Registers::read_only, rules::specs::Definitions::Registers::reset_value, rules::specs::Definitions::Registers::row_at))]
-    pub fn reset_memory(m: [u8; 256]) -> [u8; 256]
-        ensures { result ≡ memory.reset_memory m }
+    pub fn reset_memory(m: &mut [u8; 256])
+        ensures { m.new ≡ memory.reset_memory m.old }
     {
-        let mut t = m;
-        t[Map::LINE_CONTROL] = Map::reset_value(Map::LINE_CONTROL);
-        t[Map::TRANSMIT_CONTROL] = Map::reset_value(Map::TRANSMIT_CONTROL);
-        t[Map::DIAGNOSIS_CONTROL] = Map::reset_value(Map::DIAGNOSIS_CONTROL);
-        t[Map::INTERRUPT_ENABLE] = Map::reset_value(Map::INTERRUPT_ENABLE);
-        t
+        m[Map::LINE_CONTROL] = Map::reset_value(Map::LINE_CONTROL);
+        m[Map::TRANSMIT_CONTROL] = Map::reset_value(Map::TRANSMIT_CONTROL);
+        m[Map::DIAGNOSIS_CONTROL] = Map::reset_value(Map::DIAGNOSIS_CONTROL);
+        m[Map::INTERRUPT_ENABLE] = Map::reset_value(Map::INTERRUPT_ENABLE);
     }
 
     // Reset of the registers that the controller writes.
@@ -353,7 +350,7 @@ impl Map {
 }
 
 // By address, 0x00 to 0x0F.
-const RESETS: [u8; 16] = [
+static RESETS: [u8; 16] = [
     Map::LINE_CONTROL_RESET,
     Map::TRANSMIT_CONTROL_RESET,
     Map::DIAGNOSIS_CONTROL_RESET,
@@ -372,7 +369,7 @@ const RESETS: [u8; 16] = [
     0,
 ];
 
-const RESERVED_BITS: [u8; 16] = [
+static RESERVED_BITS: [u8; 16] = [
     Map::LINE_CONTROL_RESERVED,
     Map::TRANSMIT_CONTROL_RESERVED,
     Map::DIAGNOSIS_CONTROL_RESERVED,
@@ -391,7 +388,7 @@ const RESERVED_BITS: [u8; 16] = [
     0,
 ];
 
-// The codes of the last error, 0x07.
+// The codes of the last error, 0x07. They are numbers: 0x07 is a byte of the lent state, and the rules speak of its value.
 #[derive(Clone, Copy)]
 pub struct Code {}
 

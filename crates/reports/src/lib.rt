@@ -5,74 +5,68 @@ ghost use Rattle.std.specs.Prelude.{◌≡◌, true};
 ghost use Rattle.rules.specs.Definitions.Delivery as delivery;
 ghost use Rattle.rules.specs.Definitions.Service as rule;
 ghost use Rattle.rules.specs.Definitions.Setters as setter;
-ghost use Rattle.rules.specs.declared.Verdict.TheVariants as verdicts;
 
 use registers::Code;
-use rules::{Delivery, Ending, Flags, Hearing, Reception, Report, Retries, Service, Verdict};
+use rules::{Delivery, Ending, Hearing, Reception, Report, Retries, Service, Verdict};
 
 // ---- 0x07, and a frame of another module
 
 // Each error replaces 0x07 (house).
 #[tactic(auto, using(std::proofs::lemmas::Bool::Decides::nat_tests))]
-fn with_error(x: Report, code: u8) -> Report
-    ensures { result ≡ setter.with_error x code }
+fn set_error(x: &mut Report, code: u8)
+    ensures { x.new ≡ setter.with_error x.old code }
 {
-    let mut t = x;
-    t.error = code;
-    t
+    x.error = code;
 }
 
 // RE.
 #[tactic(auto, using(std::proofs::lemmas::Bool::Decides::nat_tests), unfolding(rules::specs::Definitions::Delivery::receive_error))]
-fn receive_error(x: Report) -> Report
-    ensures { result ≡ delivery.receive_error x }
+fn raise_re(x: &mut Report)
+    ensures { x.new ≡ delivery.receive_error x.old }
 {
-    let mut t = x;
-    t.flags.re = true;
-    t
+    x.flags.re = true;
 }
 
 // ROK if RAK is 1, else RNOK; 0x06 shows the channel, retries 0.
 #[tactic(auto, using(std::proofs::lemmas::Bool::Decides::nat_tests), unfolding(rules::specs::Definitions::Delivery::report_stored))]
-fn report_stored(x: Report, asked: bool, channel: u8) -> Report
-    ensures { result ≡ delivery.report_stored x asked channel }
+fn report_stored(x: &mut Report, asked: bool, channel: u8)
+    ensures { x.new ≡ delivery.report_stored x.old asked channel }
 {
-    let mut t = x;
-    t.message.count = 0;
-    t.message.channel = channel;
+    x.message = Retries { count: 0, channel };
     if asked {
-        t.flags.rok = true;
-        return t;
+        x.flags.rok = true;
+    } else {
+        x.flags.rnok = true;
     }
-    t.flags.rnok = true;
-    t
 }
 
 // A fault's code goes to 0x07, matched or not.
 #[tactic(auto, using(std::proofs::lemmas::Bool::Decides::nat_tests), unfolding(rules::specs::Definitions::Delivery::report_heard))]
-fn report_heard(h: Hearing, x: Report) -> Report
-    ensures { result ≡ delivery.report_heard h x }
+fn report_heard(x: &mut Report, h: Hearing)
+    ensures { x.new ≡ delivery.report_heard h x.old }
 {
     match h {
-        Hearing::Silent => x,
-        Hearing::Follows => x,
-        Hearing::Fault(code) => with_error(x, code),
-        Hearing::Good => x,
+        Hearing::Fault(code) => set_error(x, code),
+        Hearing::Silent | Hearing::Follows | Hearing::Good => {}
     }
 }
 
 // ROK or RNOK for a frame stored; RE for an error, with BOV where the frame did not fit.
 #[tactic(auto, using(std::proofs::lemmas::Bool::Decides::nat_tests), unfolding(rules::specs::Definitions::Delivery::report_delivered))]
-fn report_delivered(d: Delivery, x: Report, r: Reception) -> Report
-    ensures { result ≡ delivery.report_delivered d x r }
+fn report_delivered(x: &mut Report, d: Delivery, r: &Reception)
+    ensures { x.new ≡ delivery.report_delivered d x.old r.now }
 {
-    let w = r.winner;
-    let b = r.bytes;
     match d {
-        Delivery::Nothing => x,
-        Delivery::Stored => report_stored(x, channels::acknowledge_asked(b[1]), w.channel),
-        Delivery::Overflowed => receive_error(with_error(x, Code::BOV)),
-        Delivery::Spoiled => receive_error(x),
+        Delivery::Nothing => {}
+        Delivery::Stored => {
+            let asked = channels::acknowledge_asked(r.bytes[1]);
+            report_stored(x, asked, r.winner.channel);
+        }
+        Delivery::Overflowed => {
+            set_error(x, Code::BOV);
+            raise_re(x);
+        }
+        Delivery::Spoiled => raise_re(x),
     }
 }
 
@@ -80,116 +74,89 @@ fn report_delivered(d: Delivery, x: Report, r: Reception) -> Report
 
 // Retry fields show the smaller of errors and R.
 #[tactic(auto, using(std::proofs::lemmas::Bool::Decides::nat_tests), unfolding(rules::specs::Definitions::Service::retries_of))]
-fn retries_of(s: Service) -> Retries
-    ensures { result ≡ rule.retries_of s }
+fn retries_of(s: &Service) -> Retries
+    ensures { result ≡ rule.retries_of s.now }
 {
-    let e = s.effort;
-    let errors = e.counters.errors;
-    if errors.0 < e.setting as u32 {
+    let errors = s.effort.counters.errors;
+    if errors.0 < u32::from(s.effort.setting) {
         return Retries {
             count: (errors.0 % 256) as u8,
             channel: s.channel,
         };
     }
     Retries {
-        count: e.setting,
+        count: s.effort.setting,
         channel: s.channel,
     }
 }
 
 // 0x05, at the choice and at each error.
 #[tactic(auto, using(std::proofs::lemmas::Bool::Decides::nat_tests), unfolding(rules::specs::Definitions::Service::report_sending))]
-pub fn report_sending(x: Report, s: Service) -> Report
-    ensures { result ≡ rule.report_sending x s }
+pub fn report_sending(x: &mut Report, s: &Service)
+    ensures { x.new ≡ rule.report_sending x.old s.now }
 {
-    let mut t = x;
-    t.sending = retries_of(s);
-    t
+    x.sending = retries_of(s);
 }
 
 // 0x07 and 0x05 after an error in a sample; s is the service with its error counted.
 #[tactic(auto, using(std::proofs::lemmas::Bool::Decides::nat_tests), unfolding(rules::specs::Definitions::Service::report_judged))]
-fn report_judged(w: Verdict, x: Report, s: Service) -> Report
-    ensures { result ≡ rule.report_judged w x s }
+fn report_judged(x: &mut Report, w: Verdict, s: &Service)
+    ensures { x.new ≡ rule.report_judged w x.old s.now }
 {
     match w {
-        Verdict::Unjudged => x,
-        Verdict::Goes => x,
-        Verdict::Lost => x,
-        Verdict::Failed(code) => report_sending(with_error(x, code), s),
-        Verdict::Done => x,
-        Verdict::Answered => x,
+        Verdict::Failed(code) => {
+            set_error(x, code);
+            report_sending(x, s);
+        }
+        _ => {}
     }
 }
 
+// TOK, and 0x06.
 #[tactic(auto, using(std::proofs::lemmas::Bool::Decides::nat_tests))]
-fn raise_te(f: Flags) -> Flags
-    ensures { result ≡ setter.with_te f true }
+fn report_success(x: &mut Report, message: Retries)
+    ensures { x.new ≡ setter.with_flags (setter.with_message x.old message) (setter.with_tok x.old.flags true) }
 {
-    let mut t = f;
-    t.te = true;
-    t
+    x.message = message;
+    x.flags.tok = true;
 }
 
+// TE, and 0x06.
 #[tactic(auto, using(std::proofs::lemmas::Bool::Decides::nat_tests))]
-fn raise_tok(f: Flags) -> Flags
-    ensures { result ≡ setter.with_tok f true }
+fn report_exhaustion(x: &mut Report, message: Retries)
+    ensures { x.new ≡ setter.with_flags (setter.with_message x.old message) (setter.with_te x.old.flags true) }
 {
-    let mut t = f;
-    t.tok = true;
-    t
-}
-
-// 0x06 and 0x09.
-#[tactic(auto, using(std::proofs::lemmas::Bool::Decides::nat_tests), unfolding(rules::specs::Definitions::Service::retries_of))]
-fn report_message(x: Report, s: Service, f: Flags) -> Report
-    ensures { result ≡ setter.with_flags (setter.with_message x (rule.retries_of s)) f }
-{
-    let mut t = x;
-    t.message = retries_of(s);
-    t.flags = f;
-    t
+    x.message = message;
+    x.flags.te = true;
 }
 
 // 0x06 is written on success and exhaustion; abort and REAR leave the registers.
 #[tactic(auto, using(std::proofs::lemmas::Bool::Decides::nat_tests), unfolding(rules::specs::Definitions::Service::report_ended))]
-pub fn report_ended(e: Ending, x: Report, s: Service) -> Report
-    ensures { result ≡ rule.report_ended e x s }
+pub fn report_ended(x: &mut Report, e: Ending, s: &Service)
+    ensures { x.new ≡ rule.report_ended e x.old s.now }
 {
     match e {
-        Ending::Going => x,
-        Ending::Sent => report_message(x, s, raise_tok(x.flags)),
-        Ending::Exhausted => report_message(x, s, raise_te(x.flags)),
-        Ending::Aborted => x,
-        Ending::Rearbitrated => x,
-        Ending::Fulfilled => x,
+        Ending::Sent => report_success(x, retries_of(s)),
+        Ending::Exhausted => report_exhaustion(x, retries_of(s)),
+        Ending::Going | Ending::Aborted | Ending::Rearbitrated | Ending::Fulfilled => {}
     }
 }
 
-// TOK, and 0x06 with retries 0.
-#[tactic(auto, using(std::proofs::lemmas::Bool::Decides::nat_tests), unfolding(rules::specs::Definitions::Service::report_replied))]
-fn reply_sent(x: Report, c: u8) -> Report
-    ensures { result ≡ rule.report_replied verdicts.Done x c }
-{
-    let mut t = x;
-    t.message.count = 0;
-    t.message.channel = c;
-    t.flags.tok = true;
-    t
-}
-
-// What a sample of an immediate reply does: success, or RE.
+// What a sample of an immediate reply does: success with retries 0, or RE.
 #[tactic(auto, using(std::proofs::lemmas::Bool::Decides::nat_tests), unfolding(rules::specs::Definitions::Service::report_replied, rules::specs::Definitions::Delivery::receive_error))]
-pub fn report_reply(q: Verdict, report: Report, c: u8) -> Report
-    ensures { result ≡ rule.report_replied q report c }
+pub fn report_reply(x: &mut Report, q: Verdict, c: u8)
+    ensures { x.new ≡ rule.report_replied q x.old c }
 {
     match q {
-        Verdict::Unjudged => report,
-        Verdict::Goes => report,
-        Verdict::Lost => report,
-        Verdict::Failed(_) => receive_error(report),
-        Verdict::Done => reply_sent(report, c),
-        Verdict::Answered => report,
+        Verdict::Failed(_) => raise_re(x),
+        Verdict::Done => report_success(
+            x,
+            Retries {
+                count: 0,
+                channel: c,
+            },
+        ),
+        _ => {}
     }
 }
 
@@ -198,18 +165,18 @@ pub fn report_reply(q: Verdict, report: Report, c: u8) -> Report
 // 0x07, then what the frame did, then 0x05 at an error, then the end of the service; s has the sample counted.
 #[tactic(auto, using(std::proofs::lemmas::Bool::Decides::nat_tests))]
 pub fn report_after(
-    x: Report,
+    x: &mut Report,
     w: Verdict,
     h: Hearing,
     d: Delivery,
     e: Ending,
-    r: Reception,
-    s: Service,
-) -> Report
-    ensures { result ≡ rule.report_ended e (rule.report_judged w (delivery.report_delivered d (delivery.report_heard h x) r) s) s }
+    r: &Reception,
+    s: &Service,
+)
+    ensures { x.new ≡ rule.report_ended e (rule.report_judged w (delivery.report_delivered d (delivery.report_heard h x.old) r.now) s.now) s.now }
 {
-    let a = report_heard(h, x);
-    let b = report_delivered(d, a, r);
-    let c = report_judged(w, b, s);
-    report_ended(e, c, s)
+    report_heard(x, h);
+    report_delivered(x, d, r);
+    report_judged(x, w, s);
+    report_ended(x, e, s);
 }

@@ -2,15 +2,18 @@
 --   changed == the byte at each place after a write        written == the state after writes at named places        framed == after a frame is laid
 use Prim.Native.Nat.{ℕ, zero, suc, ◌+◌, ◌-◌, ◌*◌, ◌/◌, ◌%◌, ◌<◌, ◌≤◌}
 use mathlib.Core.Bool.{Bool, true, false, false≢true}
-use mathlib.Core.List.{List, [], ◌∷◌}
+use mathlib.Core.List.{List, [], ◌∷◌, ◌++◌}
 use mathlib.Core.Path.{◌≡◌, refl, sym, ◌∙◌, ap, subst, fun_ext}
 use native.Mathlib.Nat.{add-zero}
 use native.Mathlib.Numerals.{add-one}
 use native.Mathlib.Omega.{arith}
 use lib.Dec.{eqb, ltb, leb}
-use lib.ListN.{get_or, set, length, length-set}
-use lib.Seq.{sets, get_or-set_same, get_or-set_other}
+use lib.ListN.{get_or, set, length, length-set, take, drop}
+use lib.Seq.{sets, sets-eq, get_or-set_same, get_or-set_other, drop-cons}
+use borrow.Rule.Slice.PartMut.{put_mid}
 use borrow.Author.Tests.{eqb-true, eqb-false, ltb-true, ltb-false, leb-true, leb-false, eq-eqb, ne_eqb}
+use Rattle.std.proofs.lemmas.List.{take_all}
+use Rattle.std.proofs.lemmas.Slice.{put_mid-paste}
 use Rattle.line.specs.Bits.{pick}
 use Rattle.rules.specs.Definitions.Registers.{both}
 use Rattle.rules.specs.Definitions.Setters.{with_reception, with_service, with_reply, with_effort, with_frame}
@@ -216,58 +219,20 @@ reply_framed s b m n =
     }))
     (frame_is b n)
 
--- ---- byte by byte
+-- ---- as a part of the row
 
-pub frame_next : (byte : ℕ → ℕ) (at i : ℕ) → i < 34 → bytes_from (34 - i) byte (at + i) ≡ byte (at + i) ∷ bytes_from (34 - (i + 1)) byte (at + (i + 1))
-frame_next byte at i h =
-    let e : 34 - i ≡ suc (34 - (i + 1)) = omega (arith, h) in
-    let d : at + i + 1 ≡ at + (i + 1) = omega arith in
-    rw (e, d)
+cut : (n : ℕ) (s : List ℕ) (at : ℕ) → at + n ≤ length s → take n (drop at s) ≡ bytes_from n (byte_at s) at
+cut zero s at h = refl
+cut (suc n) s at h =
+    let e : at + 1 ≡ suc at = omega arith in
+    rw (drop-cons s at 0 (omega (arith, h)), e) (ap (λ (l : List ℕ). get_or s at 0 ∷ l) (cut n s (suc at) (omega (arith, h))))
 
-pub frame_step : (b : List ℕ) (byte : ℕ → ℕ) (at i : ℕ) → i < 34 →
-    sets b i (bytes_from (34 - i) byte (at + i)) ≡ sets (set b i (byte (at + i))) (i + 1) (bytes_from (34 - (i + 1)) byte (at + (i + 1)))
-frame_step b byte at i h = rw (frame_next byte at i h, add-one i)
+pub frame_cut : (s : List ℕ) (at k : ℕ) → k ≡ 34 → at + 34 ≤ length s → take k (drop at s) ≡ bytes_from 34 (byte_at s) at
+frame_cut s at k e h = rw e (cut 34 s at h)
 
-pub frame_end : (b : List ℕ) (byte : ℕ → ℕ) (at i : ℕ) → 34 ≤ i → sets b i (bytes_from (34 - i) byte (at + i)) ≡ b
-frame_end b byte at i h = let e : 34 - i ≡ 0 = omega (arith, h) in rw e
-
--- ---- one byte of the frame under way
-
-eqb_same : (n : ℕ) → eqb n n ≡ true
-eqb_same n = eq-eqb n n refl
-
-unaffected : (n : ℕ) (byte : ℕ → ℕ) (at k b : ℕ) → k < at → bytes_from n (changed byte k b) at ≡ bytes_from n byte at
-unaffected zero byte at k b h = refl
-unaffected (suc n) byte at k b h =
-    rw (ne_eqb k at (λ q. absurd (omega (arith, h, q)))) (ap (λ (l : List ℕ). byte at ∷ l) (unaffected n byte (at + 1) k b (omega (arith, h))))
-
-bytes_changed : (n : ℕ) (byte : ℕ → ℕ) (at i b : ℕ) → i < n → bytes_from n (changed byte (at + i) b) at ≡ set (bytes_from n byte at) i b
-bytes_changed zero byte at i b h = absurd (omega (arith, h))
-bytes_changed (suc n) byte at zero b h =
-    rw (add-zero at, eqb_same at) (ap (λ (l : List ℕ). b ∷ l) (unaffected n byte (at + 1) at b (omega arith)))
-bytes_changed (suc n) byte at (suc i) b h =
-    let e : at + suc i ≡ at + 1 + i = omega arith in
-    rw (ne_eqb (at + suc i) at (λ q. absurd (omega (arith, q))), e) (ap (λ (l : List ℕ). byte at ∷ l) (bytes_changed n byte (at + 1) i b (omega (arith, h))))
-
-abbrev within : (ℕ → ℕ) → (ℕ → ℕ) → ℕ → ℕ
-within inner byte j = pick (both (leb 74 j) (ltb j 108)) (inner j) (byte j)
-
-heard_alone : (byte : ℕ → ℕ) (i b : ℕ) → i < 34 → changed byte (74 + i) b ≡ within (changed byte (74 + i) b) byte
-heard_alone byte i b h = fun_ext (λ j. go j (leb 74 j) (ltb j 108) refl refl) where
-  go : (j : ℕ) (p q : Bool) → leb 74 j ≡ p → ltb j 108 ≡ q → changed byte (74 + i) b j ≡ pick (both p q) (changed byte (74 + i) b j) (byte j)
-  go j true true e d = refl
-  go j true false e d = let v = ltb-false j 108 d in rw (ne_eqb (74 + i) j (λ r. absurd (omega (arith, h, v, r))))
-  go j false q e d = let u = leb-false 74 j e in rw (ne_eqb (74 + i) j (λ r. absurd (omega (arith, u, r))))
-
-pub heard_byte : (s : List ℕ) (i b : ℕ) → length s ≡ 176 → i < 34 →
-    core_of (set s (74 + i) b) ≡ with_reception (core_of s) (with_bytes (core_of s).reception (set (core_of s).reception.bytes i b))
-unfolding core_of core_by
-heard_byte s i b n h =
-    ap core_by (set_changes s (74 + i) b (omega (arith, n, h)) ∙ heard_alone (byte_at s) i b h)
-    ∙ ap (λ (l : List ℕ). with_reception (core_by (byte_at s)) (with_bytes (core_by (byte_at s)).reception l)) (bytes_changed 34 (byte_at s) 74 i b h)
-
--- a byte of a frame
-pub byte_of : (n : ℕ) (byte : ℕ → ℕ) (at i : ℕ) → i < n → get_or (bytes_from n byte at) i 0 ≡ byte (at + i)
-byte_of zero byte at i h = absurd (omega (arith, h))
-byte_of (suc n) byte at zero h = rw (add-zero at)
-byte_of (suc n) byte at (suc i) h = let e : at + suc i ≡ at + 1 + i = omega arith in rw e (byte_of n byte (at + 1) i (omega (arith, h)))
+pub frame_put : (s b ys : List ℕ) (at k : ℕ) → ys ≡ b → k ≡ 34 → length b ≡ 34 → at + 34 ≤ length s → put_mid at k s ys ≡ sets s at b
+frame_put s b ys at k e d n h =
+    let t : take 34 b ≡ b = take_all 34 b (omega (arith, n)) in
+    let r : sets s at b ≡ take at s ++ b ++ drop (at + length b) s = sets-eq b s at (omega (arith, n, h)) in
+    let p : take at s ++ take 34 b ++ drop (at + 34) s ≡ take at s ++ b ++ drop (at + length b) s = rw (t, n) in
+    put_mid-paste at k s ys b 34 e (sym d) (sym n) ∙ p ∙ sym r

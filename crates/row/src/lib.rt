@@ -1,21 +1,15 @@
 // The state but for the memory map as a lent row of bytes: where each number stands, the state that a row says, and the row of a state (docs/STATE.md).
 #![tactic(auto)]
 
-ghost use Rattle.std.specs.Prelude.{◌≡◌, ◌+◌, ◌-◌, ◌%◌, ◌≤◌, ◌<◌, leb, length, set, get_or};
-ghost use Rattle.diagnosis.specs.Control as control_rule;
+ghost use Rattle.std.specs.Prelude.{◌≡◌, ◌≤◌, ◌<◌, length};
 ghost use Rattle.diagnosis.specs.Rules as diagnosis_rule;
 ghost use Rattle.rules.specs.Definitions.Setters as setter;
 ghost use Rattle.rules.specs.Definitions.Reception as reception_rule;
-ghost use Rattle.rules.specs.Definitions.Registers as register_rule;
-ghost use Rattle.rules.specs.Definitions.State as state_rule;
-ghost use Rattle.rules.specs.Definitions.Answers as answers;
 ghost use Rattle.row.specs.Row as rule;
 ghost use Rattle.row.specs.Bytes as bytes;
-ghost use Rattle.row.specs.Places as place;
 ghost use Rattle.std.proofs.lemmas.List.Edits.{sets};
 
 use diagnosis::{Condition, Diagnosis, Period};
-use registers::Map;
 use rules::{
     Activity, Attempts, Coded, Core, Counters, Effort, Flags, ImmediateReply, Line, Mode, Phase,
     Place, Progress, Reception, Report, Retries, Service, Stage, Timeslots, Winner,
@@ -222,31 +216,23 @@ fn put_word(s: &mut [u8; ROW], at: usize, x: u32)
 }
 
 // The bytes of a frame.
-#[tactic(auto, using(std::proofs::lemmas::Bool::Decides::nat_tests, crate::proofs::Laws::frame_step, crate::proofs::Laws::frame_end))]
+#[tactic(auto, using(std::proofs::lemmas::Bool::Decides::nat_tests, crate::proofs::Laws::frame_cut))]
 fn frame_at(s: &[u8; ROW], at: usize) -> [u8; line::CODED_BYTES]
     requires { at ≤ 142 }
     ensures { result ≡ rule.frame_at (rule.byte_at s.now) at }
 {
     let mut b = [0u8; line::CODED_BYTES];
-    let mut i = 0;
-    while i < line::CODED_BYTES {
-        b[i] = s[at + i];
-        i += 1;
-    }
+    b.copy_from_slice(&s[at..at + line::CODED_BYTES]);
     b
 }
 
-#[tactic(auto, using(std::proofs::lemmas::Bool::Decides::nat_tests, line::proofs::Room::put_next, line::proofs::Room::put_end))]
+#[tactic(auto, using(std::proofs::lemmas::Bool::Decides::nat_tests, crate::proofs::Laws::frame_put))]
 fn put_frame(s: &mut [u8; ROW], at: usize, b: [u8; line::CODED_BYTES])
     requires { at ≤ 142 }
     ensures laid { s.new ≡ sets s.old at b }
     ensures long { length b ≡ 34 }
 {
-    let mut i = 0;
-    while i < line::CODED_BYTES {
-        s[at + i] = b[i];
-        i += 1;
-    }
+    s[at..at + line::CODED_BYTES].copy_from_slice(&b);
 }
 
 #[tactic(auto, using(std::proofs::lemmas::Bool::Decides::nat_tests), unfolding(crate::specs::Bytes::bit))]
@@ -406,7 +392,7 @@ fn report_of(s: &[u8; ROW]) -> Report
     }
 }
 
-pub fn line_of(s: &[u8; ROW]) -> Line
+fn line_of(s: &[u8; ROW]) -> Line
     ensures { result ≡ rule.line_by (rule.byte_at s.now) }
 {
     Line {
@@ -471,7 +457,7 @@ fn progress_of(s: &[u8; ROW]) -> Progress
 }
 
 #[tactic(auto, using(std::proofs::lemmas::Bool::Decides::nat_tests))]
-pub fn counters_of(s: &[u8; ROW]) -> Counters
+fn counters_of(s: &[u8; ROW]) -> Counters
     ensures { result ≡ rule.counters_by (rule.byte_at s.now) }
 {
     Counters {
@@ -541,7 +527,7 @@ fn period_of(s: &[u8; ROW]) -> Period
 }
 
 #[tactic(auto, using(std::proofs::lemmas::Bool::Decides::nat_tests))]
-pub fn diagnosis_of(s: &[u8; ROW]) -> Diagnosis
+fn diagnosis_of(s: &[u8; ROW]) -> Diagnosis
     ensures { result ≡ rule.diagnosis_by (rule.byte_at s.now) }
 {
     Diagnosis {
@@ -568,27 +554,6 @@ pub fn core_of(s: &[u8; ROW]) -> Core
         reply: reply_of(s),
         diagnosis: diagnosis_of(s),
     }
-}
-
-// The slot of the frame to be sent that is driven next.
-pub fn next_of(s: &[u8; ROW]) -> u16
-    ensures { result ≡ rule.half_at (rule.byte_at s.now) 38 }
-{
-    half(s, At::NEXT)
-}
-
-// Slots of attempts.
-pub fn slots_of(s: &[u8; ROW]) -> u32
-    ensures { result ≡ rule.word_at (rule.byte_at s.now) 46 }
-{
-    word(s, At::SLOTS)
-}
-
-// Dominant slots in a row.
-pub fn dominant_of(s: &[u8; ROW]) -> u32
-    ensures { result ≡ rule.word_at (rule.byte_at s.now) 22 }
-{
-    word(s, At::DOMINANT)
 }
 
 // ---- the row of a state: each writes one part, and the others stay
@@ -639,7 +604,7 @@ fn put_line(s: &mut [u8; ROW], l: Line)
 }
 
 #[tactic(auto, using(std::proofs::lemmas::Bool::Decides::nat_tests, crate::proofs::Laws::written, crate::proofs::Laws::flag_laid), unfolding(crate::specs::Row::core_of, crate::specs::Row::core_by))]
-pub fn put_winner(s: &mut [u8; ROW], w: Winner)
+fn put_winner(s: &mut [u8; ROW], w: Winner)
     ensures { rule.core_of s.new ≡ setter.with_reception (rule.core_of s.old) (reception_rule.with_winner (rule.core_of s.old).reception w) }
 {
     length_known(s);
@@ -651,7 +616,7 @@ pub fn put_winner(s: &mut [u8; ROW], w: Winner)
 }
 
 #[tactic(auto, using(std::proofs::lemmas::Bool::Decides::nat_tests, crate::proofs::Laws::written, crate::proofs::Laws::phase_laid), unfolding(crate::specs::Row::core_of, crate::specs::Row::core_by))]
-pub fn put_place(s: &mut [u8; ROW], p: Place)
+fn put_place(s: &mut [u8; ROW], p: Place)
     ensures { rule.core_of s.new ≡ setter.with_reception (rule.core_of s.old) (reception_rule.with_place (rule.core_of s.old).reception p) }
 {
     length_known(s);
@@ -661,7 +626,7 @@ pub fn put_place(s: &mut [u8; ROW], p: Place)
 }
 
 #[tactic(auto, using(std::proofs::lemmas::Bool::Decides::nat_tests, crate::proofs::Laws::writes, crate::proofs::Laws::written, crate::proofs::Laws::writes_long, crate::proofs::Laws::heard_framed), unfolding(crate::specs::Row::core_of, crate::specs::Row::core_by))]
-pub fn put_reception(s: &mut [u8; ROW], r: Reception)
+fn put_reception(s: &mut [u8; ROW], r: Reception)
     ensures { rule.core_of s.new ≡ setter.with_reception (rule.core_of s.old) r }
 {
     length_known(s);
@@ -674,7 +639,7 @@ pub fn put_reception(s: &mut [u8; ROW], r: Reception)
 }
 
 #[tactic(auto, using(std::proofs::lemmas::Bool::Decides::nat_tests, crate::proofs::Laws::written, crate::proofs::Laws::halves, crate::proofs::Laws::half_back, crate::proofs::Laws::stage_laid), unfolding(crate::specs::Row::core_of, crate::specs::Row::core_by))]
-pub fn put_progress(s: &mut [u8; ROW], p: Progress)
+fn put_progress(s: &mut [u8; ROW], p: Progress)
     ensures { rule.core_of s.new ≡ setter.with_service (rule.core_of s.old) (setter.with_effort (rule.core_of s.old).service (setter.with_progress (rule.core_of s.old).service.effort p)) }
 {
     length_known(s);
@@ -743,7 +708,7 @@ fn put_period(s: &mut [u8; ROW], p: Period)
 }
 
 #[tactic(auto, using(std::proofs::lemmas::Bool::Decides::nat_tests, crate::proofs::Laws::written, crate::proofs::Laws::words, crate::proofs::Laws::word_back, crate::proofs::Laws::flag_laid, crate::proofs::Laws::condition_laid), unfolding(crate::specs::Row::core_of, crate::specs::Row::core_by))]
-pub fn put_diagnosis(s: &mut [u8; ROW], x: Diagnosis)
+fn put_diagnosis(s: &mut [u8; ROW], x: Diagnosis)
     ensures { rule.core_of s.new ≡ setter.with_diagnosis (rule.core_of s.old) x }
 {
     length_known(s);
@@ -756,77 +721,10 @@ pub fn put_diagnosis(s: &mut [u8; ROW], x: Diagnosis)
     put_period(s, x.period);
 }
 
-// ---- one number of it
-
-// The slot of the phase.
-#[tactic(auto, using(std::proofs::lemmas::Bool::Decides::nat_tests, crate::proofs::Laws::written), unfolding(crate::specs::Row::core_of, crate::specs::Row::core_by, rules::specs::Definitions::Reception::at_place))]
-pub fn put_slot(s: &mut [u8; ROW], at: u8)
-    ensures { rule.core_of s.new ≡ setter.with_reception (rule.core_of s.old) (reception_rule.with_place (rule.core_of s.old).reception (reception_rule.at_place (rule.core_of s.old).reception.place.phase at)) }
-{
-    length_known(s);
-    s[At::SLOT] = at;
-}
-
-// The bits of the nibble under way.
-#[tactic(auto, using(std::proofs::lemmas::Bool::Decides::nat_tests, crate::proofs::Laws::written), unfolding(crate::specs::Row::core_of, crate::specs::Row::core_by))]
-pub fn put_bits(s: &mut [u8; ROW], bits: u8)
-    ensures { rule.core_of s.new ≡ setter.with_reception (rule.core_of s.old) (reception_rule.with_bits (rule.core_of s.old).reception bits) }
-{
-    length_known(s);
-    s[At::BITS] = bits;
-}
-
-// The whole nibbles taken.
-#[tactic(auto, using(std::proofs::lemmas::Bool::Decides::nat_tests, crate::proofs::Laws::written), unfolding(crate::specs::Row::core_of, crate::specs::Row::core_by))]
-pub fn put_nibbles(s: &mut [u8; ROW], n: u8)
-    ensures { rule.core_of s.new ≡ setter.with_reception (rule.core_of s.old) (reception_rule.with_nibbles (rule.core_of s.old).reception n) }
-{
-    length_known(s);
-    s[At::NIBBLES] = n;
-}
-
-// A byte of the frame under way.
-#[tactic(auto, using(std::proofs::lemmas::Bool::Decides::nat_tests, crate::proofs::Laws::heard_byte), unfolding(crate::specs::Row::core_of, crate::specs::Row::core_by))]
-pub fn put_heard(s: &mut [u8; ROW], i: usize, b: u8)
-    ensures { rule.core_of s.new ≡ setter.with_reception (rule.core_of s.old) (reception_rule.with_bytes (rule.core_of s.old).reception (set (rule.core_of s.old).reception.bytes (i % 34) b)) }
-{
-    length_known(s);
-    s[At::HEARD + i % line::CODED_BYTES] = b;
-}
-
-// Recessive slots in a row.
-#[tactic(auto, using(std::proofs::lemmas::Bool::Decides::nat_tests, crate::proofs::Laws::written), unfolding(crate::specs::Row::core_of, crate::specs::Row::core_by))]
-pub fn put_count(s: &mut [u8; ROW], n: u8)
-    ensures { rule.core_of s.new ≡ setter.with_line (rule.core_of s.old) (rule.with_count (rule.core_of s.old).line n) }
-{
-    length_known(s);
-    s[At::COUNT] = n;
-}
-
-// Slots of attempts.
-#[tactic(auto, using(std::proofs::lemmas::Bool::Decides::nat_tests, crate::proofs::Laws::written, crate::proofs::Laws::words, crate::proofs::Laws::word_back), unfolding(crate::specs::Row::core_of, crate::specs::Row::core_by))]
-pub fn put_slots(s: &mut [u8; ROW], n: u32)
-    ensures { rule.core_of s.new ≡ setter.with_service (rule.core_of s.old) (rule.with_spent (rule.core_of s.old).service n) }
-{
-    length_known(s);
-    put_word(s, At::SLOTS, n);
-}
-
-// Sc, the last levels, and dominant slots in a row.
-#[tactic(auto, using(std::proofs::lemmas::Bool::Decides::nat_tests, crate::proofs::Laws::written, crate::proofs::Laws::words, crate::proofs::Laws::word_back, crate::proofs::Laws::flag_laid), unfolding(crate::specs::Row::core_of, crate::specs::Row::core_by))]
-pub fn put_watched(s: &mut [u8; ROW], sc: bool, levels: u8, dominant: u32)
-    ensures { rule.core_of s.new ≡ setter.with_diagnosis (rule.core_of s.old) (rule.with_watched (rule.core_of s.old).diagnosis sc levels dominant) }
-{
-    length_known(s);
-    s[At::SC] = bit(sc);
-    s[At::LEVELS] = levels;
-    put_word(s, At::DOMINANT, dominant);
-}
-
 // The row says the state.
 #[tactic(auto, using(std::proofs::lemmas::Bool::Decides::nat_tests))]
-pub fn put_core(s: &mut [u8; ROW], k: Core)
-    ensures { rule.core_of s.new ≡ k }
+pub fn put_core(s: &mut [u8; ROW], k: &Core)
+    ensures { rule.core_of s.new ≡ k.now }
 {
     put_activity(s, k.activity);
     put_report(s, k.report);
@@ -835,47 +733,4 @@ pub fn put_core(s: &mut [u8; ROW], k: Core)
     put_service(s, k.service);
     put_reply(s, k.reply);
     put_diagnosis(s, k.diagnosis);
-}
-
-// ---- number 6
-
-// The slots of the period, by the divider that 0x02 holds.
-#[tactic(auto, using(std::proofs::lemmas::Bool::Decides::nat_tests, registers::proofs::Dividers::one_slot))]
-fn period_in_range(m: &[u8; 256], s: &[u8; ROW]) -> bool
-    ensures { result ≡ leb (rule.word_at (rule.byte_at s.now) place.period) (control_rule.divider (get_or m.now register_rule.diagnosis_control 0) - 1) }
-{
-    word(s, At::PERIOD) <= Map::divider(m[Map::DIAGNOSIS_CONTROL]) - 1
-}
-
-// A row a line, in the order of `ranges`.
-#[tactic(auto, using(std::proofs::lemmas::Bool::Decides::nat_tests, ranges::proofs::Rows::joined, ranges::proofs::Rows::joined_within), unfolding(rules::specs::Definitions::State::in_range, rules::specs::Definitions::State::ranges, line::specs::Frame::size, crate::specs::Row::core_of, crate::specs::Row::core_by))]
-pub fn in_range(m: &[u8; 256], s: &[u8; ROW]) -> bool
-    ensures { result ≡ state_rule.in_range (answers.controller m.now (rule.core_of s.now)) }
-{
-    (s[At::SENDING] <= 15)
-        & (s[At::SENDING + 1] <= 13)
-        & (s[At::MESSAGE] <= 15)
-        & (s[At::MESSAGE + 1] <= 13)
-        & (s[At::ERROR] <= 32)
-        & (s[At::COUNT] <= 12)
-        & (s[At::SLOT] <= 9)
-        & (s[At::NIBBLES] <= line::MOST_NIBBLES)
-        & (s[At::BITS] <= 15)
-        & (s[At::WINNER_CHANNEL] <= 13)
-        & (s[At::POINTER] <= 127)
-        & (s[At::LENGTH] <= 31)
-        & (s[At::CHANNEL] <= 13)
-        & (s[At::OWN_DATA] <= line::LONGEST)
-        & (s[At::SETTING] <= 15)
-        & (half(s, At::NEXT) <= 60 + 10 * (line::LONGEST as u16) - 1)
-        & (word(s, At::ERRORS) <= 15)
-        & (s[At::REPLY_CHANNEL] <= 13)
-        & (half(s, At::REPLY_NEXT) <= 60 + 10 * (line::LONGEST as u16) - 1)
-        & (s[At::REPLY_DATA] <= line::LONGEST)
-        & (s[At::LEVELS] <= 7)
-        & (word(s, At::DOMINANT) <= 8)
-        & period_in_range(m, s)
-        & (word(s, At::RXD1) <= 4)
-        & (word(s, At::RXD2) <= 4)
-        & (word(s, At::CONNECTED) <= 4)
 }

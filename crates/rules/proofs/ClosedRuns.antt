@@ -4,6 +4,7 @@ use mathlib.Core.List.{[], ◌∷◌, ◌++◌}
 use mathlib.Core.Path.{◌≡◌, refl}
 use lib.Dec.{leb}
 use lib.ListN.{get_or, take, drop, replicate}
+use Rattle.std.specs.Prelude.{Some}
 use Rattle.line.specs.Bits.{bits}
 use Rattle.line.specs.LineCode.{line_code}
 use Rattle.line.specs.Frame.{byte_bits, slots, size}
@@ -17,11 +18,10 @@ use Rattle.rules.specs.Definitions.Host.{line_status_of, reset_all, interrupt_li
 use Rattle.rules.specs.Definitions.Run.{fresh, step}
 use Rattle.rules.specs.Statements.Claims.{Courses}
 use Rattle.rules.specs.Statements.Runs.{set_up, ones, levels, sent, overdriven, ran, listening, asking, last_answer, reads, sees, pin, again, sending_data, failures, overdriven_at, refuses, reads_from, writes_from, framed, heard_by, offered, types_from, types, flipped, beyond, largest_of, lower, captured, room_for}
-use Rattle.rules.specs.declared.Choice.TheVariants.{Lowest}
 use Rattle.rules.specs.declared.Mode.TheVariants.{Active}
 use Rattle.rules.specs.declared.Event.TheVariants.{Reset, Slot, Write, Read}
 
-pub lowest_of_many : lowest (leb 3) 14 0 ≡ Lowest 3
+pub lowest_of_many : lowest (leb 3) 14 0 ≡ Some 3
 unfolding lowest
 lowest_of_many = refl
 
@@ -173,9 +173,9 @@ pub sends_again : sees (offered 0x38 0x09) (0x04 ∷ 0x05 ∷ []) ≡ 0x02 ∷ 0
 unfolding last_answer ran sees reads offered
 sends_again = refl
 
-pub deferred_reply_lem : sees (offered 0x3A 0x09) (0x04 ∷ 0x05 ∷ []) ≡ 0x02 ∷ 0x00 ∷ []
+pub deferred_reply_sent : sees (offered 0x3A 0x09) (0x04 ∷ 0x05 ∷ []) ≡ 0x02 ∷ 0x00 ∷ []
 unfolding last_answer ran sees reads offered
-deferred_reply_lem = refl
+deferred_reply_sent = refl
 
 pub longest_sent : sees (offered 0x38 0xF8) (0x04 ∷ 0x05 ∷ []) ≡ 0x02 ∷ 0x00 ∷ []
 unfolding last_answer ran sees reads offered
@@ -269,9 +269,9 @@ pub nibble_68 : sees (heard_by [] (take 30 (slots (framed 8 [])) ++ take 320 (li
 unfolding last_answer ran heard_by listening ones levels framed sees reads line_code byte_bits bits
 nibble_68 = refl
 
-pub reset_values_lem : sees (Write 0x00 0xFB ∷ Write 0x02 0xFF ∷ Write 0x01 0xF3 ∷ Write 0x0A 0x1F ∷ Write 0x13 0x1F ∷ Write 0x14 0x55 ∷ Write 0x15 0x55 ∷ Write 0x03 0x80 ∷ []) (0x00 ∷ 0x01 ∷ 0x02 ∷ 0x04 ∷ 0x05 ∷ 0x06 ∷ 0x07 ∷ 0x09 ∷ 0x0A ∷ 0x13 ∷ 0x14 ∷ 0x15 ∷ []) ≡ 0x00 ∷ 0x02 ∷ 0x00 ∷ 0x20 ∷ 0x00 ∷ 0x00 ∷ 0x00 ∷ 0x80 ∷ 0x80 ∷ 0x1F ∷ 0x55 ∷ 0x55 ∷ []
+pub values_after_reset : sees (Write 0x00 0xFB ∷ Write 0x02 0xFF ∷ Write 0x01 0xF3 ∷ Write 0x0A 0x1F ∷ Write 0x13 0x1F ∷ Write 0x14 0x55 ∷ Write 0x15 0x55 ∷ Write 0x03 0x80 ∷ []) (0x00 ∷ 0x01 ∷ 0x02 ∷ 0x04 ∷ 0x05 ∷ 0x06 ∷ 0x07 ∷ 0x09 ∷ 0x0A ∷ 0x13 ∷ 0x14 ∷ 0x15 ∷ []) ≡ 0x00 ∷ 0x02 ∷ 0x00 ∷ 0x20 ∷ 0x00 ∷ 0x00 ∷ 0x00 ∷ 0x80 ∷ 0x80 ∷ 0x1F ∷ 0x55 ∷ 0x55 ∷ []
 unfolding last_answer ran sees reads
-reset_values_lem = refl
+values_after_reset = refl
 
 pub fresh_zero : drop 0x10 fresh.memory ≡ replicate 240 0
 unfolding fresh reset_all reset_memory rows_written reset_values read_only
@@ -475,7 +475,7 @@ courses =
       drak = drak;
       spoilt_beside_chtx = spoilt_beside_chtx;
       sends_again = sends_again;
-      deferred_reply_lem = deferred_reply_lem;
+      deferred_reply_sent = deferred_reply_sent;
       longest_sent = longest_sent;
       no_reply_yet = no_reply_yet;
       cher_1 = cher_1;
@@ -503,7 +503,7 @@ courses =
       still_acknowledges = still_acknowledges;
       request_before_check = request_before_check;
       nibble_68 = nibble_68;
-      reset_values = reset_values_lem;
+      reset_values = values_after_reset;
       fresh_zero = fresh_zero;
       kept_as_written = kept_as_written;
       out_of_range = out_of_range;

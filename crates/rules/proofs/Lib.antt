@@ -5,3 +5,4 @@ pub mod Matching
 pub mod Logic
 pub mod Samples
 pub mod Mailbox
+pub mod Refusals

@@ -1,6 +1,8 @@
 // The controller's state and answers: what the definitions in specs/ speak of; and the claims on them that have short proofs.
 #![tactic(auto)]
 
+ghost use Rattle.std.specs.Prelude.{◌≡◌};
+ghost use Rattle.rules.specs.Definitions.Answers as answers;
 ghost use Rattle.rules.specs.Statements.Claims as claims;
 
 use diagnosis::Diagnosis;
@@ -47,7 +49,8 @@ pub struct Channel {
     pub mask_low: u8,
 }
 
-// The pointer and the length M_L that a channel uses, its link resolved.
+// The pointer and the length M_L that a channel uses, its link resolved; of a bad link both are 0.
+// No Option: the winner and the frames of a channel are defined for a bad link too, by these zeros, and each of them would name the zeros again.
 #[derive(Clone, Copy)]
 pub struct Buffer {
     pub legal: bool,
@@ -56,6 +59,7 @@ pub struct Buffer {
 }
 
 // Who takes a frame: held from the last command slot on.
+// No Option: number 6 judges the numbers of an unmatched winner too (`ranges` in specs/Definitions/State.antt), and C lends any.
 #[derive(Clone, Copy)]
 pub struct Winner {
     pub matched: bool,
@@ -63,12 +67,6 @@ pub struct Winner {
     pub no_acknowledge: bool,
     pub pointer: u8,
     pub length: u8,
-}
-
-#[derive(Clone, Copy)]
-pub enum Choice {
-    Nothing,
-    Lowest(u8),
 }
 
 // ---- the line and the frame under way (01, Receiving and Sending)
@@ -205,6 +203,7 @@ pub enum Ending {
 }
 
 // An immediate reply: whether one is under way, its channel, its frame and the slot of it that is driven next.
+// No Option: number 6 judges the numbers of no reply too (`ranges` in specs/Definitions/State.antt), and C lends any.
 #[derive(Clone, Copy)]
 pub struct ImmediateReply {
     pub going: bool,
@@ -266,7 +265,7 @@ pub struct Answer {
 }
 
 // Why an event is refused (01, Numbers refused).
-#[derive(Clone, Copy)]
+#[derive(Clone, Copy, Debug, PartialEq, Eq)]
 pub enum Refusal {
     Address,
     Value,
@@ -278,25 +277,23 @@ pub enum Refusal {
     FixedBits,
 }
 
-// The byte read, the level of TXD or 0; or why not.
-#[derive(Clone, Copy)]
-pub enum Reply {
-    Accepted(u8),
-    Refused(Refusal),
-}
+// The number of a refusal.
+impl From<Refusal> for u8 {
+    ghost from_gives = { λ why number. number ≡ answers.number why };
 
-// What a call answers, and the controller that it leaves.
-#[derive(Clone, Copy)]
-pub struct Outcome {
-    pub reply: Reply,
-    pub next: Controller,
-}
-
-// The same where the memory map is lent.
-#[derive(Clone, Copy)]
-pub struct CoreOutcome {
-    pub reply: Reply,
-    pub next: Core,
+    #[tactic(auto, unfolding(crate::specs::Definitions::Answers::number))]
+    fn from(why: Refusal) -> Self {
+        match why {
+            Refusal::Address => 1,
+            Refusal::Value => 2,
+            Refusal::Unwritable => 3,
+            Refusal::Unreadable => 4,
+            Refusal::Levels => 5,
+            Refusal::Range => 6,
+            Refusal::Asleep => 7,
+            Refusal::FixedBits => 8,
+        }
+    }
 }
 
 // Pin reset; host write of an address and a value; host read of an address; a slot with the levels of the three inputs.

@@ -5,7 +5,7 @@ ghost use Rattle.std.specs.Prelude.{◌≡◌};
 ghost use Rattle.rules.specs.Definitions.Service as rule;
 
 use registers::Map;
-use rules::{Choice, Effort, Line, Reception, Service, Stage};
+use rules::{Effort, Line, Reception, Service, Stage};
 
 // The service of channel c: its frame and MR are copied now.
 #[tactic(auto, using(std::proofs::lemmas::Bool::Decides::nat_tests), unfolding(rules::specs::Definitions::Service::chosen, rules::specs::Definitions::Service::resting))]
@@ -26,16 +26,16 @@ fn chosen(m: &[u8; 256], c: u8) -> Service
 }
 
 #[tactic(auto, using(std::proofs::lemmas::Bool::Decides::nat_tests), unfolding(rules::specs::Definitions::Service::choice_of))]
-fn choice_of(m: &[u8; 256], x: Choice) -> Service
+fn choice_of(m: &[u8; 256], x: Option<u8>) -> Service
     ensures { result ≡ rule.choice_of m.now x }
 {
     match x {
-        Choice::Nothing => ending::resting(),
-        Choice::Lowest(c) => chosen(m, c),
+        None => ending::resting(),
+        Some(c) => chosen(m, c),
     }
 }
 
-// The service of the lowest channel that is ready to send.
+// The service of the lowest channel that is ready to send. By value: where none is ready the rules keep the old service.
 #[tactic(auto, using(std::proofs::lemmas::Bool::Decides::nat_tests), unfolding(rules::specs::Definitions::Service::choose))]
 pub fn choose(m: &[u8; 256], longest: u8) -> Service
     ensures { result ≡ rule.choose m.now longest }
@@ -45,33 +45,23 @@ pub fn choose(m: &[u8; 256], longest: u8) -> Service
 
 // Slot k of the frame is answered: the first level of an attempt.
 #[tactic(auto, using(std::proofs::lemmas::Bool::Decides::nat_tests), unfolding(rules::specs::Definitions::Service::opened))]
-fn opened(s: Service, k: u16) -> Service
-    ensures { result ≡ rule.opened s k }
+fn open(s: &mut Service, k: u16)
+    ensures { s.new ≡ rule.opened s.old k }
 {
-    let mut e = s.effort;
-    e.progress = stage::at_stage(Stage::Opening, k);
-    let mut t = s;
-    t.effort = e;
-    t
+    s.effort.progress = stage::at_stage(Stage::Opening, k);
 }
 
 // Either type joins a clean start sequence; MT 1 starts at once on a free line.
 #[tactic(auto, using(std::proofs::lemmas::Bool::Decides::nat_tests), unfolding(rules::specs::Definitions::Service::started))]
-pub fn started(s: Service, autonomous: bool, l: Line, r: Reception) -> Service
-    ensures { result ≡ rule.started s autonomous l r }
+pub fn start(s: &mut Service, autonomous: bool, l: Line, r: &Reception)
+    ensures { s.new ≡ rule.started s.old autonomous l r.now }
 {
-    let e = s.effort;
-    if stage::waits(e.progress) {
-        if place::start_ended(r) {
-            return opened(s, 10);
-        }
-        if place::under_way(r.place) {
-            return s;
-        }
-        if (autonomous) & (free_line::free(l)) {
-            return opened(s, 0);
-        }
-        return s;
+    if !stage::waits(s.effort.progress) {
+        return;
     }
-    s
+    if place::start_ended(r) {
+        open(s, 10);
+    } else if !place::under_way(r.place) && autonomous && free_line::free(l) {
+        open(s, 0);
+    }
 }

@@ -1,4 +1,7 @@
 -- Laws: what is read at a place is what is written there.
+use Rattle.std.specs.Prelude.{Err}
+use Rattle.leb128.specs.declared.Refusal.TheVariants as numbers
+use Rattle.leb128.specs.declared.Refusal.{Refusal}
 use Prim.Native.Nat.{ℕ, ◌+◌, ◌≤◌}
 use mathlib.Core.List.{List, [], ◌++◌, append_assoc}
 use mathlib.Core.Path.{◌≡◌, refl, ap, sym, ◌∙◌}
@@ -13,13 +16,7 @@ use Rattle.leb128.proofs.GroupLaws.{either, looked_fits}
 use Rattle.leb128.proofs.RoundTrip.{complete, sound}
 use Rattle.session.specs.declared.Event.{Event}
 use Rattle.session.specs.declared.Event.TheVariants.{Reset, Write, Read, Slot, Mark}
-use Rattle.session.specs.declared.Varint.{Varint}
-use Rattle.session.specs.declared.Varint.TheVariants.{Value, Bad as BadVarint}
-use Rattle.session.specs.declared.Header.{Header}
-use Rattle.session.specs.declared.Header.TheVariants.{Good, Bad as BadHeader}
-use Rattle.session.specs.declared.Item.{Item}
-use Rattle.session.specs.declared.Item.TheVariants.{Next, Bad as BadItem}
-use Rattle.session.specs.Reading.{refusal, placed, varint_at, counted, versioned, header_at, valued, operands, kinded, event_at}
+use Rattle.session.specs.Reading.{refusal, placed, varint_at, counted, versioned, header_at, valued, operands, kinded, event_at, bad, Varint, Header, Item, Value, Good, Next}
 use Rattle.session.specs.declared.Fault.{Fault}
 use Rattle.session.specs.declared.Fault.TheVariants.{Version, Count, Kind}
 use Rattle.session.specs.Claims as claims
@@ -62,22 +59,22 @@ value_within : (s : List ℕ) (at n u : ℕ) (t : List ℕ) → at ≤ length s 
 unfolding looked_of
 value_within s at n u t h e = let k : u ≡ looked_of (decode (drop at s)) = sym (ap looked_of e) in rw k (looked_within s at h)
 
-refused_within : (s : List ℕ) (at : ℕ) (f : leb128.Refusal) (u : ℕ) → at ≤ length s → decode (drop at s) ≡ leb128.Refused f u → at + u ≤ length s
+refused_within : (s : List ℕ) (at : ℕ) (f : Refusal) (u : ℕ) → at ≤ length s → decode (drop at s) ≡ leb128.Refused f u → at + u ≤ length s
 unfolding looked_of
 refused_within s at f u h e = let k : u ≡ looked_of (decode (drop at s)) = sym (ap looked_of e) in rw k (looked_within s at h)
 
-refused_found : (most : ℕ) (s : List ℕ) (p : ℕ) (f : leb128.Refusal) (u : ℕ) → decode (drop p s) ≡ leb128.Refused f u → Found most s (refusal f) p u
+refused_found : (most : ℕ) (s : List ℕ) (p : ℕ) (f : Refusal) (u : ℕ) → decode (drop p s) ≡ leb128.Refused f u → Found most s (refusal f) p u
 unfolding Found refusal
-refused_found most s p leb128.Cut u e = e
-refused_found most s p leb128.NotShortest u e = e
-refused_found most s p leb128.TooLarge u e = e
+refused_found most s p numbers.Cut u e = e
+refused_found most s p numbers.NotShortest u e = e
+refused_found most s p numbers.TooLarge u e = e
 
 -- A number is its LEB128 form; a fault has its place.
 unfoldable pub VarintIs : List ℕ → ℕ → Varint → Type 0
 VarintIs s at (Value n next used) = (n ≤ 65535) × Form s at (uleb128 n) next × ((rest : List ℕ) × (decode (drop at s) ≡ leb128.Value n used rest))
-VarintIs s at (BadVarint f p k) = (p ≡ at) × ((most : ℕ) → Located most s f p k) × ((r : leb128.Refusal) × (f ≡ refusal r))
+VarintIs s at (Err err) = (err.at ≡ at) × ((most : ℕ) → Located most s err.why err.at err.looked) × ((r : Refusal) × (err.why ≡ refusal r))
 
-refused_is : (s : List ℕ) (at p : ℕ) (f : leb128.Refusal) (u : ℕ) → at ≤ length s → decode (drop at s) ≡ leb128.Refused f u → p ≡ at → VarintIs s at (BadVarint (refusal f) p u)
+refused_is : (s : List ℕ) (at p : ℕ) (f : Refusal) (u : ℕ) → at ≤ length s → decode (drop at s) ≡ leb128.Refused f u → p ≡ at → VarintIs s at (bad (refusal f) p u)
 unfolding VarintIs
 refused_is s at p f u h e m = (m, (λ most. rw m (record { found = refused_found most s at f u e; inside = refused_within s at f u h e })), (f, refl))
 
@@ -100,12 +97,12 @@ varint_back s at n u h e = rw (e, complete n u h)
 pub data HeaderFault (s : List ℕ) (at p : ℕ) : Fault → Type 0 where
   version : p ≡ at → HeaderFault s at p Version
   count : Form s at (uleb128 1) p → HeaderFault s at p Count
-  version_refused : (r : leb128.Refusal) → p ≡ at → HeaderFault s at p (refusal r)
-  count_refused : (r : leb128.Refusal) → Form s at (uleb128 1) p → HeaderFault s at p (refusal r)
+  version_refused : (r : Refusal) → p ≡ at → HeaderFault s at p (refusal r)
+  count_refused : (r : Refusal) → Form s at (uleb128 1) p → HeaderFault s at p (refusal r)
 
 pub data ItemFault (s : List ℕ) (at p : ℕ) : Fault → Type 0 where
   kind : Form s at [] p → ItemFault s at p Kind
-  refused : (r : leb128.Refusal) (begun : List ℕ) → Begun begun → Form s at begun p → ItemFault s at p (refusal r)
+  refused : (r : Refusal) (begun : List ℕ) → Begun begun → Form s at begun p → ItemFault s at p (refusal r)
 
 nothing_before : (s : List ℕ) (at p : ℕ) → p ≡ at → Form s at [] p
 nothing_before s at p e = rw e (record { bytes = refl; place = omega arith })
@@ -113,12 +110,12 @@ nothing_before s at p e = rw e (record { bytes = refl; place = omega arith })
 -- The header is version 1 and a count of at most `most`.
 unfoldable pub HeaderIs : ℕ → List ℕ → ℕ → Header → Type 0
 HeaderIs most s at (Good c next) = (c ≤ most) × (c ≤ 65535) × Form s at (uleb128 1 ++ uleb128 c) next
-HeaderIs most s at (BadHeader f p k) = Located most s f p k × HeaderFault s at p f
+HeaderIs most s at (Err err) = Located most s err.why err.at err.looked × HeaderFault s at err.at err.why
 
 module _ (most : ℕ) (s : List ℕ) (at : ℕ) (b : Bytes s) (h : at ≤ length s) where
   counted_is : (next : ℕ) → Form s at (uleb128 1) next → (r : Varint) → VarintIs s next r → HeaderIs most s at (counted most next r)
   unfolding counted VarintIs HeaderIs Found
-  counted_is next f (BadVarint g p k) e = (e.1 most, rw e.2.1 (count_refused e.2.0 (rw e.0 f)))
+  counted_is next f (Err err) e = (e.1 most, rw e.2.1 (count_refused e.2.0 (rw e.0 f)))
   counted_is next f (Value c last used) e =
       either (HeaderIs most s at) (ltb most c)
       (λ q. (record { found = (c, (e.2.0, (e.2.1, ltb-true most c q))); inside = value_within s next c used e.2.0 (within h f) e.2.1 }, count f))
@@ -126,7 +123,7 @@ module _ (most : ℕ) (s : List ℕ) (at : ℕ) (b : Bytes s) (h : at ≤ length
 
   versioned_is : (r : Varint) → VarintIs s at r → HeaderIs most s at (versioned most s at r)
   unfolding versioned VarintIs HeaderIs Found
-  versioned_is (BadVarint g p k) e = (e.1 most, rw e.2.1 (version_refused e.2.0 e.0))
+  versioned_is (Err err) e = (e.1 most, rw e.2.1 (version_refused e.2.0 e.0))
   versioned_is (Value v next used) e =
       either (HeaderIs most s at) (eqb v 1)
       (λ q. let f = rw (eqb-true v 1 q) at e.1 in counted_is next f (varint_at s next) (varint_is s next b (within h f)))
@@ -148,7 +145,7 @@ header_back most s at c u h k e =
 -- An event is its bytes; a fault stands at its place or after it.
 unfoldable pub ItemIs : List ℕ → ℕ → Item → Type 0
 ItemIs s at (Next e next) = Fits e × Form s at (event_bytes e) next
-ItemIs s at (BadItem f p k) = ItemFault s at p f × ((most : ℕ) → Located most s f p k)
+ItemIs s at (Err err) = ItemFault s at err.at err.why × ((most : ℕ) → Located most s err.why err.at err.looked)
 
 begun_kind : (k : ℕ) → (k ≡ 0 → ⊥) → k ≤ 4 → Begun (uleb128 k)
 begun_kind k z l = claims.kind k (omega (arith, z)) l
@@ -156,12 +153,12 @@ begun_kind k z l = claims.kind k (omega (arith, z)) l
 module _ (s : List ℕ) (at : ℕ) (b : Bytes s) (h : at ≤ length s) where
   valued_is : (a next : ℕ) → a ≤ 65535 → Form s at (uleb128 1 ++ uleb128 a) next → (r : Varint) → VarintIs s next r → ItemIs s at (valued a r)
   unfolding valued VarintIs ItemIs Fits event_bytes
-  valued_is a next k f (BadVarint g p u) e = (rw e.2.1 (refused e.2.0 _ (address a k) (rw e.0 f)), e.1)
+  valued_is a next k f (Err err) e = (rw e.2.1 (refused e.2.0 _ (address a k) (rw e.0 f)), e.1)
   valued_is a next k f (Value v last used) e = ((k, e.0), onward f e.1)
 
   operands_is : (k next : ℕ) → (k ≡ 0 → ⊥) → k ≤ 4 → Form s at (uleb128 k) next → (r : Varint) → VarintIs s next r → ItemIs s at (operands s k r)
   unfolding operands VarintIs ItemIs Fits event_bytes
-  operands_is k next z l f (BadVarint g p u) e = (rw e.2.1 (refused e.2.0 _ (begun_kind k z l) (rw e.0 f)), e.1)
+  operands_is k next z l f (Err err) e = (rw e.2.1 (refused e.2.0 _ (begun_kind k z l) (rw e.0 f)), e.1)
   operands_is k next z l f (Value n last used) e =
       let both = onward f e.1 in
       either (ItemIs s at) (eqb k 1)
@@ -172,7 +169,7 @@ module _ (s : List ℕ) (at : ℕ) (b : Bytes s) (h : at ≤ length s) where
 
   kinded_is : (r : Varint) → VarintIs s at r → ItemIs s at (kinded s at r)
   unfolding kinded VarintIs ItemIs Fits event_bytes Found
-  kinded_is (BadVarint g p u) e = (rw e.2.1 (refused e.2.0 [] nothing (nothing_before s at p e.0)), e.1)
+  kinded_is (Err err) e = (rw e.2.1 (refused e.2.0 [] nothing (nothing_before s at err.at e.0)), e.1)
   kinded_is (Value k next used) e =
       either (ItemIs s at) (ltb 4 k) (λ p. (kind (nothing_before s at at refl), (λ most. record { found = (k, (e.2.0, (e.2.1, ltb-true 4 k p))); inside = value_within s at k used e.2.0 h e.2.1 })))
       λ p. either (ItemIs s at) (eqb k 0) (λ q. (tt, rw (eqb-true k 0 q) at e.1))

@@ -1,4 +1,5 @@
 -- A session is read up to its first fault, the events before the fault do not depend on what follows it, and a good session is its events.
+use Rattle.std.specs.Prelude.{Err}
 use Prim.Native.Nat.{ℕ, ◌+◌, ◌-◌, ◌*◌, ◌≤◌}
 use mathlib.Core.List.{List, [], ◌++◌, append-nil}
 use mathlib.Core.Path.{◌≡◌, refl, ap, sym, ◌∙◌}
@@ -9,9 +10,7 @@ use lib.Seq.{take-append_seam}
 use Rattle.leb128.specs.Leb128.{Bytes, uleb128, groups_of}
 use Rattle.session.specs.declared.Fault.{Fault}
 use Rattle.session.specs.declared.Event.{Event}
-use Rattle.session.specs.declared.End.{End}
-use Rattle.session.specs.declared.End.TheVariants.{Clean, Bad}
-use Rattle.session.specs.Reading.{most_events, Events, Reading, NoHeader, Counted, session}
+use Rattle.session.specs.Reading.{most_events, Events, Reading, NoHeader, Counted, session, bad, End, Clean}
 use Rattle.session.specs.Claims as claims
 use Rattle.session.specs.Claims.{InHeader, InEvents, Ended, Answered, Begins, Settled, Good}
 use Rattle.session.specs.Writing.{events_bytes, session_bytes, AllFit}
@@ -40,7 +39,7 @@ ended_is : (most : ℕ) (s : List ℕ) (due m : ℕ) (es : List Event) (e : End)
     → Ended most s due es e
 unfolding EndIs Ended
 ended_is most s due m es Clean g h = h.0
-ended_is most s due m es (Bad f p k) g h = (h.1 most, in_events g h.0)
+ended_is most s due m es (Err err) g h = (h.1 most, in_events g h.0)
 
 answered_is : (most : ℕ) (s : List ℕ) (q : Reading) → SessionIs most s q → Answered most s q
 unfolding SessionIs Answered
@@ -54,7 +53,7 @@ begins_with : (c : ℕ) (es : List Event) (r : Events) (q : Reading) → q ≡ C
 unfolding Begins
 begins_with c es r q e = rw e (refl, (r.events, refl))
 
-pub prefix : (most : ℕ) (s : List ℕ) → Bytes s → (c : ℕ) (r : Events) → session most s ≡ Counted c r → (f : Fault) (p k : ℕ) → r.end ≡ Bad f p k
+pub prefix : (most : ℕ) (s : List ℕ) → Bytes s → (c : ℕ) (r : Events) → session most s ≡ Counted c r → (f : Fault) (p k : ℕ) → r.end ≡ bad f p k
     → (t : List ℕ) → Begins c r.events (session most (take p s ++ t))
 prefix most s b c r e f p k i t = begins_with c r.events _ (session most (take p s ++ t)) (stays most s b c r e f p k i t)
 

@@ -4,13 +4,10 @@ use mathlib.Core.List.{List, [], ◌∷◌}
 use mathlib.Core.Path.{◌≡◌, refl}
 use Rattle.session.specs.declared.Fault.{Fault}
 use Rattle.session.specs.declared.Event.{Event}
-use Rattle.session.specs.declared.Header.TheVariants.{Good, Bad as BadHeader}
-use Rattle.session.specs.declared.Item.TheVariants.{Next, Bad as BadItem}
-use Rattle.session.specs.declared.End.TheVariants.{Bad as BadEnd}
-use Rattle.session.specs.Reading.{header_at, event_at, end_at, follow, events_at, NoHeader, Counted, started, session}
+use Rattle.session.specs.Reading.{header_at, event_at, end_at, follow, events_at, NoHeader, Counted, started, session, bad, Good, Next}
 
 module _ (most : ℕ) (s : List ℕ) where
-  pub no_header : {f : Fault} {p k : ℕ} → header_at most s 0 ≡ BadHeader f p k → session most s ≡ NoHeader f p k
+  pub no_header : {f : Fault} {p k : ℕ} → header_at most s 0 ≡ bad f p k → session most s ≡ NoHeader f p k
   unfolding session started
   no_header e = rw e
 
@@ -24,10 +21,6 @@ module _ (s : List ℕ) (at : ℕ) where
   none_due = refl
 
   module _ (due : ℕ) where
-    pub stops : {f : Fault} {p k : ℕ} → event_at s at ≡ BadItem f p k → events_at (suc due) s at ≡ record { events = []; end = BadEnd f p k }
-    unfolding events_at follow
-    stops e = rw e
-
     pub goes_on : {e : Event} {next : ℕ} → event_at s at ≡ Next e next
         → events_at (suc due) s at ≡ record { events = e ∷ (events_at due s next).events; end = (events_at due s next).end }
     unfolding events_at follow

@@ -1,4 +1,5 @@
 -- Laws of the whole session: its bytes are those of its header, of the events read, and what follows them.
+use Rattle.std.specs.Prelude.{Err}
 use Prim.Native.Nat.{ℕ, zero, suc, ◌+◌, ◌-◌, ◌*◌, ◌<◌, ◌≤◌}
 use mathlib.Core.List.{List, [], ◌∷◌, ◌++◌, append_assoc, append-nil}
 use mathlib.Core.Path.{◌≡◌, refl, ap, ◌∙◌}
@@ -14,13 +15,7 @@ use Rattle.session.specs.declared.Fault.{Fault}
 use Rattle.session.specs.declared.Fault.TheVariants.{LeftOver}
 use Rattle.session.specs.declared.Event.{Event}
 use Rattle.session.specs.declared.Event.TheVariants.{Reset, Write, Read, Slot, Mark}
-use Rattle.session.specs.declared.Header.{Header}
-use Rattle.session.specs.declared.Header.TheVariants.{Good, Bad as BadHeader}
-use Rattle.session.specs.declared.Item.{Item}
-use Rattle.session.specs.declared.Item.TheVariants.{Next, Bad as BadItem}
-use Rattle.session.specs.declared.End.{End}
-use Rattle.session.specs.declared.End.TheVariants.{Clean, Bad as BadEnd}
-use Rattle.session.specs.Reading.{header_at, event_at, end_at, Events, follow, events_at, Reading, NoHeader, Counted, started, session}
+use Rattle.session.specs.Reading.{header_at, event_at, end_at, Events, follow, events_at, Reading, NoHeader, Counted, started, session, bad, Header, Item, End, Good, Next, Clean}
 use Rattle.session.specs.Claims.{Found, Located}
 use Rattle.session.specs.Writing.{event_bytes, events_bytes, session_bytes, AllFit}
 use Rattle.session.proofs.Walk.{counts, goes_on}
@@ -34,7 +29,7 @@ pub data EndFault (s : List ℕ) (m p due n : ℕ) : Fault → Type 0 where
 -- How the reading of n of the events due ended, at the place m: with nothing left, or with a fault at m or after it.
 unfoldable pub EndIs : ℕ → List ℕ → ℕ → ℕ → End → Type 0
 EndIs due s m n Clean = (n ≡ due) × (m ≡ length s)
-EndIs due s m n (BadEnd f p k) = EndFault s m p due n f × ((most : ℕ) → Located most s f p k)
+EndIs due s m n (Err err) = EndFault s m err.at due n err.why × ((most : ℕ) → Located most s err.why err.at err.looked)
 
 pub record EventsAre (due : ℕ) (s : List ℕ) (at : ℕ) (r : Events) : Type 0 where
   pub last : ℕ
@@ -60,13 +55,13 @@ later (left_over l i) = left_over (omega arith) i
 one_more : (due : ℕ) (s : List ℕ) (m n : ℕ) (e : End) → EndIs due s m n e → EndIs (suc due) s m (suc n) e
 unfolding EndIs
 one_more due s m n Clean h = omega arith
-one_more due s m n (BadEnd f p k) h = (later h.0, h.1)
+one_more due s m n (Err err) h = (later h.0, h.1)
 
 module _ (s : List ℕ) (b : Bytes s) where
   after_item : (due at : ℕ) → at ≤ length s → (i : Item) → ItemIs s at i → ((next : ℕ) → next ≤ length s → EventsAre due s next (events_at due s next))
       → EventsAre (suc due) s at (follow i (λ next. events_at due s next))
   unfolding follow ItemIs AllFit EndIs events_bytes
-  after_item due at h (BadItem f p k) e rest = record { last = at; form = none_read s at; fit = tt; ends = (in_event (omega arith) e.0, e.1) }
+  after_item due at h (Err err) e rest = record { last = at; form = none_read s at; fit = tt; ends = (in_event (omega arith) e.0, e.1) }
   after_item due at h (Next v next) e rest =
       let r = rest next (within h e.1) in
       record { last = r.last; form = onward e.1 r.form; fit = (e.0, r.fit); ends = one_more due s r.last (length (events_at due s next).events) (events_at due s next).end r.ends }
@@ -91,7 +86,7 @@ SessionIs most s (Counted c r) = Whole most s c r
 module _ (most : ℕ) (s : List ℕ) (b : Bytes s) where
   started_is : (h : Header) → HeaderIs most s 0 h → SessionIs most s (started s h)
   unfolding started HeaderIs SessionIs
-  started_is (BadHeader f p k) e = e
+  started_is (Err err) e = e
   started_is (Good c next) e =
       record { most_due = e.0; count_fits = e.1; first = next; header = e.2; read = events_are s b c next (within (omega arith) e.2) }
 
@@ -133,7 +128,7 @@ behind (in_event l (kind g)) = let i = g.place in (omega arith, omega arith)
 behind (in_event l (refused r begun b g)) = let i = g.place in (omega arith, omega arith)
 behind (left_over l i) = (omega arith, omega arith)
 
-bad_end : (due : ℕ) (s : List ℕ) (m n : ℕ) (x : End) (f : Fault) (p k : ℕ) → x ≡ BadEnd f p k → EndIs due s m n x → (n ≤ due) × (m ≤ p) × (p ≤ length s)
+bad_end : (due : ℕ) (s : List ℕ) (m n : ℕ) (x : End) (f : Fault) (p k : ℕ) → x ≡ bad f p k → EndIs due s m n x → (n ≤ due) × (m ≤ p) × (p ≤ length s)
 unfolding EndIs
 bad_end due s m n x f p k e h = let a = rw e at h in let i = (a.1 0).inside in let o = behind a.0 in (o.0, o.1, omega arith)
 
@@ -153,7 +148,7 @@ module _ (most : ℕ) (s : List ℕ) (b : Bytes s) (c : ℕ) (r : Events) (e : s
   form = onward w.header w.read.form
 
   -- they are read again in front of other bytes
-  pub stays : (f : Fault) (p k : ℕ) → r.end ≡ BadEnd f p k → (t : List ℕ)
+  pub stays : (f : Fault) (p k : ℕ) → r.end ≡ bad f p k → (t : List ℕ)
       → session most (take p s ++ t) ≡ Counted c (prepend r.events (events_at (c - length r.events) (take p s ++ t) (length front)))
   stays f p k i t =
       let x = bad_end c s w.read.last (length r.events) r.end f p k i w.read.ends in

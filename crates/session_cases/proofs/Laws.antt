@@ -1,38 +1,35 @@
--- What is still due of a session gives its outcome.
-use Prim.Native.Nat.{ℕ, suc, ◌+◌, ◌-◌, ◌<◌, ◌≤◌}
-use mathlib.Core.List.{List}
-use mathlib.Core.Path.{◌≡◌}
-use native.Mathlib.Omega.{arith}
-use native.Mathlib.Nat.{add-zero, zero-add, sub-zero}
-use lib.ListN.{length}
-use Rattle.session.specs.declared.Fault.{Fault}
+-- What the iterator yields gives the outcome of the reading.
+use Rattle.std.proofs.Common.{◌≡◌, ℕ, suc, ◌+◌, List, [], ◌∷◌, length, Result, Ok, Err, arith, refl, ap, ◌∙◌}
+use native.Mathlib.Nat.{add-zero, zero-add}
+use Rattle.session.specs.declared.Bad.{Bad}
 use Rattle.session.specs.declared.Event.{Event}
-use Rattle.session.specs.declared.Item.TheVariants.{Next, Bad as BadItem}
-use Rattle.session.specs.Reading.{event_at, end_at, Events, events_at}
-use Rattle.session.proofs.Walk.{none_due, stops, goes_on}
+use Rattle.session.specs.Reading as reading
+use Rattle.session.specs.Reading.{End, Clean, Good, header_at, events_at, started, session}
+use Rattle.reading_place.specs.Items.{ended, before, items}
 use Rattle.session_cases.specs.declared.Outcome.{Outcome}
-use Rattle.session_cases.specs.declared.Outcome.TheVariants.{Broken}
-use Rattle.session_cases.specs.Summary.{ended, outcome}
+use Rattle.session_cases.specs.declared.Outcome.TheVariants.{Refused}
+use Rattle.session_cases.specs.Summary as rule
+use Rattle.session_cases.specs.Summary.{outcome, outcome_of, summary}
 
--- the outcome where n events were read before these
-abbrev pub after : ℕ → Events → Outcome
-after n r = ended (n + length r.events) r.end
+summary_ended : (n : ℕ) (e : End) → summary n (ended e) ≡ rule.ended n e
+unfolding rule.ended
+summary_ended n Clean = refl
+summary_ended n (Err bad) = refl
 
-module _ (s : List ℕ) (count n at : ℕ) where
-  pub first_due : n ≡ 0 → outcome (events_at count s at) ≡ after n (events_at (count - n) s at)
-  unfolding outcome
-  first_due z = rw (z, sub-zero, zero-add)
+summary_before : (n : ℕ) (es : List Event) (e : End) → summary n (before es (ended e)) ≡ rule.ended (n + length es) e
+summary_before n [] e = summary_ended n e ∙ rw (add-zero)
+summary_before n (v ∷ es) e =
+    let l : n + 1 + length es ≡ n + suc (length es) = omega arith in summary_before (n + 1) es e ∙ ap (λ (k : ℕ). rule.ended k e) l
 
-  pub stopped : {f : Fault} {p k : ℕ} → n < count → event_at s at ≡ BadItem f p k → after n (events_at (count - n) s at) ≡ Broken n f p k
-  unfolding ended
-  stopped h e = let d : count - n ≡ suc (count - (n + 1)) = omega arith in rw (d, stops s at (count - (n + 1)) e, add-zero)
+pub summary_items : (r : reading.Events) → summary 0 (items r) ≡ outcome r
+unfolding outcome
+summary_items r = summary_before 0 r.events r.end ∙ rw (zero-add)
 
-  pub went_on : {e : Event} {next : ℕ} → n < count → event_at s at ≡ Next e next
-      → after n (events_at (count - n) s at) ≡ after (n + 1) (events_at (count - (n + 1)) s next)
-  went_on {next = next} h e =
-      let d : count - n ≡ suc (count - (n + 1)) = omega arith in
-      let l : n + suc (length (events_at (count - (n + 1)) s next).events) ≡ n + 1 + length (events_at (count - (n + 1)) s next).events = omega arith in
-      rw (d, goes_on s at (count - (n + 1)) e, l)
+module _ (most : ℕ) (s : List ℕ) where
+  pub refused : (bad : Bad) → header_at most s 0 ≡ Err bad → Refused bad ≡ outcome_of (session most s)
+  unfolding session started outcome_of
+  refused bad e = rw e
 
-  pub all_read : count ≤ n → after n (events_at (count - n) s at) ≡ ended n (end_at s at)
-  all_read h = let d : count - n ≡ 0 = omega arith in rw (d, none_due s at, add-zero)
+  pub counted : (count next : ℕ) → header_at most s 0 ≡ Good count next → summary 0 (items (events_at count s next)) ≡ outcome_of (session most s)
+  unfolding session started outcome_of
+  counted count next e = rw e (summary_items (events_at count s next))

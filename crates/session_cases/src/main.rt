@@ -1,98 +1,90 @@
 // Reads each session of standard input, a line with its name and its bytes in hexadecimal, and writes how the reading ended.
 #![tactic(auto)]
 
-ghost use Rattle.std.specs.Prelude.{◌≡◌, ◌≤◌, ◌<◌, length, take, IfOk};
+ghost use Rattle.std.specs.Prelude.{◌≡◌, ◌≤◌, ◌<◌, length, IfOk, IfSome};
 ghost use Rattle.session.specs.Reading as reading;
+ghost use Rattle.reading_place.specs.Items.{rest_of};
 ghost use Rattle.session_cases.specs.Summary as rule;
 
-use session::{End, Fault, Header, Item};
-use std::io;
+use reading_place::{Events, Session};
+use session::Bad;
 use std::io::{Read, Write};
+use std::{fmt, io};
 
-// A whole session: its header refused; its count, all read; or the events read and the fault after them. A fault has its place and how many bytes were looked at there.
+// A whole session: its header refused; its count, all read; or the events read and the fault after them.
 #[derive(Clone, Copy)]
 enum Outcome {
-    Refused(Fault, usize, usize),
-    Whole(u16),
-    Broken(u16, Fault, usize, usize),
+    Refused(Bad),
+    Whole(usize),
+    Broken(usize, Bad),
+}
+
+impl fmt::Display for Outcome {
+    fn fmt<W: fmt::Write>(&self, f: &mut fmt::Formatter<W>) -> fmt::Result {
+        match *self {
+            Outcome::Refused(bad) => write!(f, "header: {bad}"),
+            Outcome::Whole(n) => write!(f, "{n} events: end"),
+            Outcome::Broken(n, bad) => write!(f, "{n} events: {bad}"),
+        }
+    }
 }
 
 fn main(rt: HostRuntime) -> io::Result<()> {
+    // fixed memory: the first 65,536 bytes are read
     let mut text = [0u8; 65536];
     let n = io::copy(&mut rt.reader().take(65536), &mut &mut text[..])?;
     lines(&mut io::writer(&rt), &text[..n.min(65536) as usize])
 }
 
-#[tactic(auto, using(std::proofs::lemmas::Bool::Decides::nat_tests))]
 fn lines<W: Write>(out: &mut W, text: &[u8]) -> io::Result<()> {
-    let mut at = 0;
-    while at < text.len() {
-        at = line(out, text, at)?;
+    let mut rest = text;
+    while rest.len() > 0 {
+        rest = line(out, rest)?;
     }
     Ok(())
 }
 
-// One line; the place after it is the answer.
-fn line<W: Write>(out: &mut W, text: &[u8], at: usize) -> io::Result<usize>
-    requires { at < length text.now }
-    ensures { IfOk result (λ next. at < next) }
+// One line; what follows it is the answer. Its name goes up to the first blank, and its digits from there to the end of their line.
+fn line<'a, W: Write>(out: &mut W, text: &'a [u8]) -> io::Result<&'a [u8]>
+    requires { 0 < length text.now }
+    ensures { IfOk result (λ rest. length rest.now < length text.now) }
 {
-    let blank = find(text, at, b' ');
-    let end = find(text, blank, b'\n');
-    out.write_all(&text[at..blank])?;
-    out.write_all(b": ")?;
-    if blank < end {
-        read_text(out, &text[blank + 1..end])?;
-    }
-    out.write_all(b"\n")?;
-    if end < text.len() {
-        Ok(end + 1)
-    } else {
-        Ok(text.len())
-    }
-}
-
-// The first place from `at` on that holds b, or the end.
-#[tactic(auto, using(std::proofs::lemmas::Bool::Decides::nat_tests))]
-fn find(text: &[u8], at: usize, b: u8) -> usize
-    requires { at ≤ length text.now }
-    ensures { (at ≤ result) × (result ≤ length text.now) }
-{
-    let mut i = at;
-    while i < text.len() {
-        if text[i] == b {
-            return i;
-        }
-        i += 1;
-    }
-    i
-}
-
-fn read_text<W: Write>(out: &mut W, text: &[u8]) -> io::Result<()> {
+    let (name, behind) = cut(text, b' ');
+    out.write_all(name)?;
+    write!(out, ": ")?;
+    let Some(behind) = behind else {
+        writeln!(out)?;
+        return Ok(&[]);
+    };
+    let (digits, rest) = cut(behind, b'\n');
     let mut space = [0u8; 4096];
-    let n = decode(text, &mut space);
-    report(out, &space[..n])
+    let n = decode(digits, &mut space);
+    let outcome = read_all(&space[..n]);
+    writeln!(out, "{outcome}")?;
+    Ok(rest.unwrap_or(&[]))
+}
+
+// What stands before the first b, and behind it where there is one.
+fn cut(text: &[u8], b: u8) -> (&[u8], Option<&[u8]>)
+    ensures { IfSome result.1 (λ behind. length behind.now < length text.now) }
+{
+    match text.iter().position(|x| *x == b) {
+        Some(place) => (&text[..place], Some(&text[place + 1..])),
+        None => (text, None),
+    }
 }
 
 // The bytes of a text in hexadecimal, as many as out has room for, and how many there are.
-#[tactic(auto, using(std::proofs::lemmas::Bool::Decides::nat_tests))]
 fn decode(text: &[u8], out: &mut [u8]) -> usize
-    ensures fits { result ≤ length out.new }
-    ensures front { result ≡ length (take result out.new) }
+    ensures { result ≤ length out.new }
 {
-    let mut n = 0;
-    let mut i = 0;
-    while n < out.len() {
-        if text.len() - i < 2 {
-            return n;
-        }
-        out[n] = digit(text[i]) * 16 + digit(text[i + 1]);
-        n += 1;
-        i += 2;
+    for (place, pair) in out.iter_mut().zip(text.chunks_exact(2)) {
+        *place = digit(pair[0]) * 16 + digit(pair[1]);
     }
-    n
+    out.len().min(text.len() / 2)
 }
 
+// A digit's value; of another byte some number below 16, so that every text has bytes.
 fn digit(b: u8) -> u8
     ensures { result < 16 }
 {
@@ -103,57 +95,27 @@ fn digit(b: u8) -> u8
 }
 
 // The whole session.
-#[tactic(auto, using(std::proofs::lemmas::Bool::Decides::nat_tests), unfolding(session::specs::Reading::session, session::specs::Reading::started, crate::specs::Summary::outcome_of))]
+#[tactic(auto, using(crate::proofs::Laws::refused, crate::proofs::Laws::counted))]
 fn read_all(s: &[u8]) -> Outcome
     ensures { result ≡ rule.outcome_of (reading.session reading.most_events s.now) }
 {
-    match session::header_at(s, 0) {
-        Header::Bad(f, p, looked) => Outcome::Refused(f, p, looked),
-        Header::Good(count, next) => events_from(s, count, next),
+    let mut session = Session::new(s);
+    match session.header() {
+        Err(bad) => Outcome::Refused(bad),
+        Ok(count) => read_events(session.events(count)),
     }
 }
 
-#[tactic(auto, using(std::proofs::lemmas::Bool::Decides::nat_tests, crate::proofs::Laws::after, crate::proofs::Laws::first_due, crate::proofs::Laws::stopped, crate::proofs::Laws::went_on, crate::proofs::Laws::all_read), unfolding(crate::specs::Summary::ended))]
-fn events_from(s: &[u8], count: u16, first: usize) -> Outcome
-    ensures { result ≡ rule.outcome (reading.events_at count s.now first) }
+fn read_events(events: Events<'_>) -> Outcome
+    requires { length (rest_of events) ≤ 65536 }
+    ensures { result ≡ rule.summary 0 (rest_of events.entry) }
 {
-    let mut at = first;
-    let mut n = 0u16;
-    while n < count {
-        match reading_place::event_from(s, at) {
-            Item::Bad(f, p, looked) => return Outcome::Broken(n, f, p, looked),
-            Item::Next(_, next) => at = next,
+    let mut n = 0;
+    for item in events {
+        if let Err(bad) = item {
+            return Outcome::Broken(n, bad);
         }
         n += 1;
     }
-    match session::end_at(s, at) {
-        End::Bad(f, p, looked) => Outcome::Broken(n, f, p, looked),
-        End::Clean => Outcome::Whole(n),
-    }
-}
-
-fn report<W: Write>(out: &mut W, s: &[u8]) -> io::Result<()> {
-    match read_all(s) {
-        Outcome::Refused(f, p, looked) => {
-            out.write_all(b"header: ")?;
-            bad(out, f, p, looked)
-        }
-        Outcome::Broken(n, f, p, looked) => {
-            events(out, n)?;
-            bad(out, f, p, looked)
-        }
-        Outcome::Whole(n) => {
-            events(out, n)?;
-            out.write_all(b"end")
-        }
-    }
-}
-
-fn events<W: Write>(out: &mut W, n: u16) -> io::Result<()> {
-    write!(out, "{n} events: ")
-}
-
-fn bad<W: Write>(out: &mut W, f: Fault, p: usize, looked: usize) -> io::Result<()> {
-    let number = session::fault_number(f);
-    write!(out, "bad {number} at {p} after {looked}")
+    Outcome::Whole(n)
 }

@@ -1,4 +1,4 @@
--- Where nothing begins, nothing follows; the level from its parts.
+-- Where nothing begins, nothing follows.
 use Prim.Native.Nat.{ℕ}
 use mathlib.Core.Bool.{Bool, true, false, false≢true, not}
 use mathlib.Core.List.{List}
@@ -7,14 +7,12 @@ use Rattle.line.specs.Bits.{pick}
 use Rattle.line.proofs.Laws.{pick_same}
 use Rattle.rules.specs.Definitions.Reception.{under_way, start_ended}
 use Rattle.rules.specs.Definitions.Attempt.{waits}
-use Rattle.rules.specs.Definitions.Service.{started, role_of, receives}
+use Rattle.rules.specs.Definitions.Service.{started}
 use Rattle.rules.specs.Definitions.State.{idle_due, is_active, serving}
-use Rattle.rules.specs.Definitions.Slots.{chooses, choice_made, start_made, follows_on, drives, drives_as}
-use Rattle.rules.specs.declared.Role.{Role}
-use Rattle.rules.specs.declared.Role.TheVariants.{Nobody, Receiver, Sender, Asker, Replier}
+use Rattle.rules.specs.Definitions.Slots.{chooses, choice_made, start_made, follows_on}
 use Rattle.rules.specs.declared.Core.{Core}
 use Rattle.rules.proofs.Logic.{both_false}
-use Rattle.slots.specs.Follow.{begins, own_level, driven, driven_as}
+use Rattle.slots.specs.Follow.{begins}
 
 -- no idle waits, a frame is under way, and its start sequence has not just ended
 waits_not : (k : Core) → begins k ≡ false → k.activity.waiting ≡ false
@@ -55,15 +53,3 @@ no_start m k e = rw (not_ended k e, under_way_lem k e, pick_same (waits k.servic
 pub nothing_follows : (m : List ℕ) (k : Core) → begins k ≡ false → follows_on m k ≡ k
 unfolding follows_on
 nothing_follows m k e = rw (no_idle k e, no_choice m k e, no_start m k e)
-
-driven_as_lem : (x : Role) (k : Core) → driven_as x k.service.effort.progress k.reception k.service.effort.frame k.reply ≡ drives_as x k
-unfolding driven_as own_level receives drives_as
-driven_as_lem Nobody k = refl
-driven_as_lem Receiver k = refl
-driven_as_lem Sender k = refl
-driven_as_lem Asker k = refl
-driven_as_lem Replier k = refl
-
-pub driven_is : (k : Core) → driven k.service.effort.progress k.reception k.service.effort.frame k.reply ≡ drives k
-unfolding driven drives
-driven_is k = driven_as_lem (role_of k.service.effort.progress k.reply.going k.reception.place) k

@@ -23,10 +23,7 @@ pub fn no_counts() -> Counters
 pub fn at_stage(stage: Stage, at: u16) -> Progress
     ensures { result ≡ rule.at_stage stage at }
 {
-    Progress {
-        stage: stage,
-        at: at,
-    }
+    Progress { stage, at }
 }
 
 // TXG.
@@ -34,14 +31,7 @@ pub fn at_stage(stage: Stage, at: u16) -> Progress
 pub fn in_service(p: Progress) -> bool
     ensures { result ≡ rule.in_service p }
 {
-    let stage = p.stage;
-    match stage {
-        Stage::Resting => false, // no service
-        Stage::Waiting => true, // also between attempts
-        Stage::Opening => true,
-        Stage::Sending => true,
-        Stage::Receiving => true,
-    }
+    !matches!(p.stage, Stage::Resting)
 }
 
 // In a service and between attempts: a first level answered and not yet sampled is no attempt.
@@ -49,14 +39,7 @@ pub fn in_service(p: Progress) -> bool
 pub fn between_attempts(p: Progress) -> bool
     ensures { result ≡ rule.between_attempts p }
 {
-    let stage = p.stage;
-    match stage {
-        Stage::Resting => false,
-        Stage::Waiting => true,
-        Stage::Opening => true, // not sampled yet
-        Stage::Sending => false, // in an attempt
-        Stage::Receiving => false, // in an answered attempt
-    }
+    matches!(p.stage, Stage::Waiting | Stage::Opening)
 }
 
 // In a service, with no level answered.
@@ -64,14 +47,7 @@ pub fn between_attempts(p: Progress) -> bool
 pub fn waits(p: Progress) -> bool
     ensures { result ≡ rule.waits p }
 {
-    let stage = p.stage;
-    match stage {
-        Stage::Resting => false,
-        Stage::Waiting => true, // nothing answered
-        Stage::Opening => false, // a level answered
-        Stage::Sending => false,
-        Stage::Receiving => false,
-    }
+    matches!(p.stage, Stage::Waiting)
 }
 
 // A level of the frame is driven in the slot to come.
@@ -79,14 +55,7 @@ pub fn waits(p: Progress) -> bool
 pub fn drives_frame(p: Progress) -> bool
     ensures { result ≡ rule.drives_frame p }
 {
-    let stage = p.stage;
-    match stage {
-        Stage::Resting => false,
-        Stage::Waiting => false, // nothing to drive
-        Stage::Opening => true, // the first level
-        Stage::Sending => true,
-        Stage::Receiving => false, // the other module's frame
-    }
+    matches!(p.stage, Stage::Opening | Stage::Sending)
 }
 
 // In an attempt whose request is being answered.
@@ -94,12 +63,5 @@ pub fn drives_frame(p: Progress) -> bool
 pub fn is_answered(p: Progress) -> bool
     ensures { result ≡ rule.is_answered p }
 {
-    let stage = p.stage;
-    match stage {
-        Stage::Resting => false,
-        Stage::Waiting => false,
-        Stage::Opening => false,
-        Stage::Sending => false, // no answer yet
-        Stage::Receiving => true, // the frame that answers it
-    }
+    matches!(p.stage, Stage::Receiving)
 }

@@ -19,11 +19,10 @@ fn in_mode(mode: Mode, waiting: bool) -> Activity
 
 // There is a service: TXG.
 #[tactic(auto, using(std::proofs::lemmas::Bool::Decides::nat_tests), unfolding(rules::specs::Definitions::State::serving))]
-pub fn serving(s: Service) -> bool
-    ensures { result ≡ rule.serving s }
+pub fn serving(s: &Service) -> bool
+    ensures { result ≡ rule.serving s.now }
 {
-    let e = s.effort;
-    stage::in_service(e.progress)
+    stage::in_service(s.effort.progress)
 }
 
 // ---- reset
@@ -64,27 +63,20 @@ pub fn no_reply() -> ImmediateReply
 
 // Idle acts: the frame under way is dropped.
 #[tactic(auto, using(std::proofs::lemmas::Bool::Decides::nat_tests), unfolding(rules::specs::Definitions::State::idled))]
-fn idled(k: Core) -> Core
-    ensures { result ≡ rule.idled k }
+fn idle(k: &mut Core)
+    ensures { k.new ≡ rule.idled k.old }
 {
-    let mut t = k;
-    t.activity = in_mode(Mode::Idle, false);
-    t.reception = reception::quiet();
-    t.reply = no_reply();
-    t
+    k.activity = in_mode(Mode::Idle, false);
+    k.reception = reception::quiet();
+    k.reply = no_reply();
 }
 
 // A waiting idle acts once there is no service.
 #[tactic(auto, using(std::proofs::lemmas::Bool::Decides::nat_tests), unfolding(rules::specs::Definitions::State::idle_due))]
-pub fn idle_due(k: Core) -> Core
-    ensures { result ≡ rule.idle_due k }
+pub fn idle_if_due(k: &mut Core)
+    ensures { k.new ≡ rule.idle_due k.old }
 {
-    let a = k.activity;
-    if a.waiting {
-        if serving(k.service) {
-            return k;
-        }
-        return idled(k);
+    if k.activity.waiting && !serving(&k.service) {
+        idle(k);
     }
-    k
 }

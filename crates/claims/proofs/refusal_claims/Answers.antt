@@ -10,7 +10,7 @@ refusals =
     record {
       same = refused_same;
       zero_elsewhere = refused_value;
-      in_range_lem = never_six;
+      always_in_range = never_six;
       never_six = never_refused_six;
       of_reset = reset_number;
       of_write = write_number;

@@ -263,16 +263,16 @@ reset_raised c (Write a v) (by_command i p q) = go (step_of c (Write a v))
 reset_raised c (Read _) x = elim x [ ]
 reset_raised c (Slot _) x = elim x [ ]
 
-asks_reset_lem : (a v : ℕ) → resets a (v % 256) ≡ true → (a ≡ 0x03) × (bit_at v 7 ≡ 1)
+reset_bit : (a v : ℕ) → resets a (v % 256) ≡ true → (a ≡ 0x03) × (bit_at v 7 ≡ 1)
 unfolding resets
-asks_reset_lem a v e = let b = both_true (eqb a command) (asks_reset (v % 256)) e in (eqb-true a command b.0, asks_bit v b.1)
+reset_bit a v e = let b = both_true (eqb a command) (asks_reset (v % 256)) e in (eqb-true a command b.0, asks_bit v b.1)
 
 rst_by : (c : Controller) → Raised (λ f. f.rst) IsReset c
 rst_by c =
     record {
       raised = reset_raised c;
       only =
-          only_by (λ f. f.rst) c (IsReset c) (λ x i. by_pin i) (λ a v x i d. let r = asks_reset_lem a v d in by_command i r.0 r.1)
+          only_by (λ f. f.rst) c (IsReset c) (λ x i. by_pin i) (λ a v x i d. let r = reset_bit a v d in by_command i r.0 r.1)
           (λ f v e. unfold cleared in unless_false f.rst (has_bit v 7) e)
           (λ a v f. ended_same (λ f. f.rst) (λ f. refl) (λ f. refl) (stopped (service_asked c.core.service a v)) f)
           (λ l s e h. clash e (sym (slot_rst c (sample_of c l)) ∙ h));

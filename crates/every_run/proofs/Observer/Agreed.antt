@@ -42,7 +42,7 @@ use Rattle.every_run.proofs.Sending.Demand3.{Joined, after_beside, joined_fresh,
 use Rattle.every_run.proofs.Ranges.Limits.{Fine}
 use Rattle.every_run.proofs.Ranges.Reception.{Received, judged_received}
 use Rattle.every_run.proofs.Ranges.Reach.{fine_next}
-use Rattle.every_run.proofs.Observer.Replies.{own_heard, SameReply, no_reply_lem, same_going, is_going, is_replier, reply_drives, reply_level, reply_judged, apart_reply, own_reply, asked_reply}
+use Rattle.every_run.proofs.Observer.Replies.{own_heard, SameReply, silent_same, same_going, is_going, is_replier, reply_drives, reply_level, reply_judged, apart_reply, own_reply, asked_reply}
 use Rattle.rules.proofs.Samples.{sample_small}
 use Rattle.rules.specs.declared.Line.{Line}
 use Rattle.rules.specs.declared.Reception.{Reception}
@@ -171,31 +171,31 @@ module _ (k : Core) (o : Observer) (s : SameCore k o) (w : Verdict) (v : ℕ) wh
           (heard_replier k w v d a (is_going k o.reply s.reply d a c f levels e) ∙ ap hear_own (reply_judged k o.reply s.reply d a c f levels e v) ∙ own_heard f (28 + length levels) v
           ∙ rw (reply_drives k o.reply s.reply d a c f levels e))
 
-  own_in_lem : (stage : Stage) (at : ℕ) → is_driving stage ≡ true → k.service ≡ made o.tally stage at → w ≡ judge_slot (coded o.tally.frame) at v → drives k ≡ level_at (coded o.tally.frame) at
+  heard_driven : (stage : Stage) (at : ℕ) → is_driving stage ≡ true → k.service ≡ made o.tally stage at → w ≡ judge_slot (coded o.tally.frame) at v → drives k ≡ level_at (coded o.tally.frame) at
       → heard k w v ≡ hears_own (verdict o.tally.frame at (drives k) v) (code_t o.tally.frame at (drives k))
-  own_in_lem stage at b e j q =
+  heard_driven stage at b e j q =
       let d : drives_frame k.service.effort.progress ≡ true = ap (λ (x : Service). drives_frame x.effort.progress) e ∙ (unfold made drives_frame at_stage in b) in
       heard_sender k w v d ∙ ap hear_own j ∙ own_heard o.tally.frame at v ∙ rw q
 
-  hears_in_lem : (x : Stand) (y : Answering) → k.service ≡ service_in x o.tally → JudgedIn x o.tally v y w → (attempting x ≡ true → drives k ≡ driven_in x o.tally)
+  hears_is : (x : Stand) (y : Answering) → k.service ≡ service_in x o.tally → JudgedIn x o.tally v y w → (attempting x ≡ true → drives k ≡ driven_in x o.tally)
       → heard k w v ≡ hears_in x o (longest_of k) (drives k) v
   unfolding hears_in service_in driven_in attempting
-  hears_in_lem away y e j q = apart_heard (rw e (unfold resting at_stage drives_frame is_driving in refl)) (rw e (unfold resting at_stage is_answered is_answering in refl))
-  hears_in_lem between y e j q = apart_heard (rw e (unfold made at_stage drives_frame is_driving in refl)) (rw e (unfold made at_stage is_answered is_answering in refl))
-  hears_in_lem (opening start) y e j q = own_in_lem Opening start (unfold is_driving in refl) e j (q refl)
-  hears_in_lem (inside start levels) y e j q = own_in_lem Sending (start + length levels) (unfold is_driving in refl) e j (q refl)
-  hears_in_lem (answered start n) y e j q =
+  hears_is away y e j q = apart_heard (rw e (unfold resting at_stage drives_frame is_driving in refl)) (rw e (unfold resting at_stage is_answered is_answering in refl))
+  hears_is between y e j q = apart_heard (rw e (unfold made at_stage drives_frame is_driving in refl)) (rw e (unfold made at_stage is_answered is_answering in refl))
+  hears_is (opening start) y e j q = heard_driven Opening start (unfold is_driving in refl) e j (q refl)
+  hears_is (inside start levels) y e j q = heard_driven Sending (start + length levels) (unfold is_driving in refl) e j (q refl)
+  hears_is (answered start n) y e j q =
       heard_asker k w v (rw e (unfold made at_stage drives_frame is_driving in refl)) (rw e (unfold made at_stage is_answered is_answering in refl)) ∙ rw s.frame
 
 -- the reply after a sample
-reply_in_lem : (k : Core) (o : Observer) → SameCore k o → (x : Stand) → k.service ≡ service_in x o.tally → {m : List ℕ} → Below 256 m → (h : Hearing) (v : ℕ) → Below 256 (reception_judged m h k.reception v).bytes
+reply_same : (k : Core) (o : Observer) → SameCore k o → (x : Stand) → k.service ≡ service_in x o.tally → {m : List ℕ} → Below 256 m → (h : Hearing) (v : ℕ) → Below 256 (reception_judged m h k.reception v).bytes
     → SameReply (reply_after (role_in k) m k (reply_verdict (role_in k) k v) (reception_judged m h k.reception v)) (reply_in x o.reply (longest_of k) m (drives k) v (reception_judged m h k.reception v))
 unfolding reply_in service_in
-reply_in_lem k o s away e b h v g = apart_reply k o.reply s.reply (rw e (unfold resting at_stage drives_frame is_driving in refl)) (rw e (unfold resting at_stage is_answered is_answering in refl)) b h v g
-reply_in_lem k o s between e b h v g = apart_reply k o.reply s.reply (rw e (unfold made at_stage drives_frame is_driving in refl)) (rw e (unfold made at_stage is_answered is_answering in refl)) b h v g
-reply_in_lem k o s (opening start) e {m} b h v g = own_reply k o.reply s.reply m _ _ (rw e (unfold made at_stage drives_frame is_driving in refl))
-reply_in_lem k o s (inside start levels) e {m} b h v g = own_reply k o.reply s.reply m _ _ (rw e (unfold made at_stage drives_frame is_driving in refl))
-reply_in_lem k o s (answered start n) e {m} b h v g =
+reply_same k o s away e b h v g = apart_reply k o.reply s.reply (rw e (unfold resting at_stage drives_frame is_driving in refl)) (rw e (unfold resting at_stage is_answered is_answering in refl)) b h v g
+reply_same k o s between e b h v g = apart_reply k o.reply s.reply (rw e (unfold made at_stage drives_frame is_driving in refl)) (rw e (unfold made at_stage is_answered is_answering in refl)) b h v g
+reply_same k o s (opening start) e {m} b h v g = own_reply k o.reply s.reply m _ _ (rw e (unfold made at_stage drives_frame is_driving in refl))
+reply_same k o s (inside start levels) e {m} b h v g = own_reply k o.reply s.reply m _ _ (rw e (unfold made at_stage drives_frame is_driving in refl))
+reply_same k o s (answered start n) e {m} b h v g =
     asked_reply k o.reply s.reply m _ _ (rw e (unfold made at_stage drives_frame is_driving in refl)) (rw e (unfold made at_stage is_answered is_answering in refl))
 
 -- ---- a waiting idle that has come due
@@ -221,7 +221,7 @@ idle_same k o s e = go k.activity.waiting o.activity.waiting (ap (λ (x : Activi
     go false true w x y h = absurd (false≢true w)
     go true true w true true h = absurd (false≢true (sym h))
     go true true w true false h = s
-    go true true w false true h = unfold idled in record { activity = refl; line = s.line; frame = refl; reply = no_reply_lem }
+    go true true w false true h = unfold idled in record { activity = refl; line = s.line; frame = refl; reply = silent_same }
     go true true w false false h = absurd (false≢true h)
     go false false w x y h = s
 
@@ -391,8 +391,8 @@ module _ (c : Controller) (o : Observer) (s : Same c o) (a v : ℕ) where
     where
       go : (x y : Bool) → SameCore (pick x (reset_all c) (pick y (record { memory = c.memory; core = slept c.core }) (byte_written c a v))).core
           (pick x at_reset (pick y (with_reply_o (with_tally_o (with_frame_o (with_activity_o o (in_mode Asleep false)) quiet) none) silent) (with_diagnosis_o (idle_o (with_tally_o (commanded_o o a v) (ended_t (asked_t o.tally a v)))) (diagnosis_written c.memory o.diagnosis a v))))
-      go true y = unfold reset_all reset_core at_reset unsettled in record { activity = refl; line = line_anew false; frame = refl; reply = no_reply_lem }
-      go false true = unfold slept in record { activity = refl; line = s.core.line; frame = refl; reply = no_reply_lem }
+      go true y = unfold reset_all reset_core at_reset unsettled in record { activity = refl; line = line_anew false; frame = refl; reply = silent_same }
+      go false true = unfold slept in record { activity = refl; line = s.core.line; frame = refl; reply = silent_same }
       go false false = byte_same
 
   wrote_tally : pick (resets a v) none (pick (sleeps a v) none (ended_t (asked_t o.tally a v))) ≡ (written_o c.memory o a v).tally
@@ -428,7 +428,7 @@ module _ (c : Controller) (o : Observer) (s : Same c o) (v : ℕ) where
   pub hears_same : heard c.core (slot_rule.verdict c.core v) v ≡ hears_o o (longest_of c.core) (drives c.core) v
   unfolding hears_o
   hears_same =
-      hears_in_lem c.core o s.core (slot_rule.verdict c.core v) v o.tally.stand (answer_c c v) (unfold service_of in s.joined.service) (is_judged c o.tally s.joined v)
+      hears_is c.core o s.core (slot_rule.verdict c.core v) v o.tally.stand (answer_c c v) (unfold service_of in s.joined.service) (is_judged c o.tally s.joined v)
       (driven_is c o.tally s.joined)
 
   -- the tally once the sample's effects are taken
@@ -456,7 +456,7 @@ module _ (c : Controller) (o : Observer) (s : Same c o) (f : Fine c) (v : ℕ) (
         frame = ap (λ (r : Reception). reception_judged m h r v) s.core.frame;
         reply =
             subst (λ (r : Reception). SameReply (reply_after (role_in c.core) m c.core (reply_verdict (role_in c.core) c.core v) (reception_judged m h c.core.reception v)) (reply_in o.tally.stand o.reply (longest_of c.core) m (drives c.core) v (reception_judged m h r v)))
-            s.core.frame (reply_in_lem c.core o s.core o.tally.stand (unfold service_of in s.joined.service) bytes h v (judged_received bytes h c.core.reception v r).bytes);
+            s.core.frame (reply_same c.core o s.core o.tally.stand (unfold service_of in s.joined.service) bytes h v (judged_received bytes h c.core.reception v r).bytes);
       })
 
   pub judged_service : (judged_core c v).service ≡ service_of (ended_c c o.tally v)
@@ -496,13 +496,13 @@ goes_on_same k o longest m i = record { activity = i.activity; line = i.line; fr
 
 -- ---- what the claim says of it
 
-counted_in_lem : (x : Stand) (s : Service) (t : Tally) → s ≡ service_in x t → is_away x ≡ false → Counted s t
+counted_same : (x : Stand) (s : Service) (t : Tally) → s ≡ service_in x t → is_away x ≡ false → Counted s t
 unfolding service_in is_away made counters_of
-counted_in_lem away s t e a = absurd (false≢true (sym a))
-counted_in_lem between s t e a = rw e (record { channel = refl; setting = refl; lost = refl; errors = refl; slots = refl })
-counted_in_lem (opening start) s t e a = rw e (record { channel = refl; setting = refl; lost = refl; errors = refl; slots = refl })
-counted_in_lem (inside start levels) s t e a = rw e (record { channel = refl; setting = refl; lost = refl; errors = refl; slots = refl })
-counted_in_lem (answered start n) s t e a = rw e (record { channel = refl; setting = refl; lost = refl; errors = refl; slots = refl })
+counted_same away s t e a = absurd (false≢true (sym a))
+counted_same between s t e a = rw e (record { channel = refl; setting = refl; lost = refl; errors = refl; slots = refl })
+counted_same (opening start) s t e a = rw e (record { channel = refl; setting = refl; lost = refl; errors = refl; slots = refl })
+counted_same (inside start levels) s t e a = rw e (record { channel = refl; setting = refl; lost = refl; errors = refl; slots = refl })
+counted_same (answered start n) s t e a = rw e (record { channel = refl; setting = refl; lost = refl; errors = refl; slots = refl })
 
 quiet_level : (r : Reception) → under_way r.place ≡ false → receiver_level r ≡ 1
 unfolding receiver_level under_way
@@ -535,9 +535,9 @@ module _ (c : Controller) (o : Observer) (s : Same c o) where
   unfolding drives
   asker_level d a = rw (role_asker c.core.service.effort.progress c.core.reply.going c.core.reception.place d a, ← s.core.frame) (unfold drives_as in refl)
 
-  role_in_lem : (x : Stand) → c.core.service ≡ service_in x o.tally → role_in c.core ≡ role_as x o.reply o.frame.place
+  role_is_as : (x : Stand) → c.core.service ≡ service_in x o.tally → role_in c.core ≡ role_as x o.reply o.frame.place
   unfolding role_as service_in
-  role_in_lem x e = rw (← s.core.frame) (go x e)
+  role_is_as x e = rw (← s.core.frame) (go x e)
     where
       go : (x : Stand) → c.core.service ≡ service_in x o.tally → role_in c.core ≡ role_as x o.reply c.core.reception.place
       go away e = apart_role (rw e (unfold resting at_stage drives_frame is_driving in refl)) (rw e (unfold resting at_stage is_answered is_answering in refl))
@@ -547,13 +547,13 @@ module _ (c : Controller) (o : Observer) (s : Same c o) where
       go (answered start n) e =
           role_asker c.core.service.effort.progress c.core.reply.going c.core.reception.place (rw e (unfold made at_stage drives_frame is_driving in refl)) (rw e (unfold made at_stage is_answered is_answering in refl))
 
-  level_in_lem : (x : Stand) → o.tally.stand ≡ x → c.core.service ≡ service_in x o.tally → drives c.core ≡ level_in x o
+  level_driven : (x : Stand) → o.tally.stand ≡ x → c.core.service ≡ service_in x o.tally → drives c.core ≡ level_in x o
   unfolding level_in service_in
-  level_in_lem away e h = apart_level (rw h (unfold resting at_stage drives_frame is_driving in refl)) (rw h (unfold resting at_stage is_answered is_answering in refl))
-  level_in_lem between e h = apart_level (rw h (unfold made at_stage drives_frame is_driving in refl)) (rw h (unfold made at_stage is_answered is_answering in refl))
-  level_in_lem (opening start) e h = level_is c o.tally s.joined (rw e (unfold attempting in refl)) ∙ rw e (unfold bound.level_in in refl)
-  level_in_lem (inside start levels) e h = level_is c o.tally s.joined (rw e (unfold attempting in refl)) ∙ rw e (unfold bound.level_in in refl)
-  level_in_lem (answered start n) e h = asker_level (rw h (unfold made at_stage drives_frame is_driving in refl)) (rw h (unfold made at_stage is_answered is_answering in refl))
+  level_driven away e h = apart_level (rw h (unfold resting at_stage drives_frame is_driving in refl)) (rw h (unfold resting at_stage is_answered is_answering in refl))
+  level_driven between e h = apart_level (rw h (unfold made at_stage drives_frame is_driving in refl)) (rw h (unfold made at_stage is_answered is_answering in refl))
+  level_driven (opening start) e h = level_is c o.tally s.joined (rw e (unfold attempting in refl)) ∙ rw e (unfold bound.level_in in refl)
+  level_driven (inside start levels) e h = level_is c o.tally s.joined (rw e (unfold attempting in refl)) ∙ rw e (unfold bound.level_in in refl)
+  level_driven (answered start n) e h = asker_level (rw h (unfold made at_stage drives_frame is_driving in refl)) (rw h (unfold made at_stage is_answered is_answering in refl))
 
   at_rest : is_active o.activity.mode ≡ false → drives c.core ≡ 1
   at_rest a =
@@ -569,7 +569,7 @@ module _ (c : Controller) (o : Observer) (s : Same c o) where
       away_service (answered start n) h i = absurd (false≢true (unfold is_away in i))
 
   level_now : (a : Bool) → is_active o.activity.mode ≡ a → drives c.core ≡ pick a (level_in o.tally.stand o) 1
-  level_now true a = level_in_lem o.tally.stand refl (unfold service_of in s.joined.service)
+  level_now true a = level_driven o.tally.stand refl (unfold service_of in s.joined.service)
   level_now false a = at_rest a
 
   pub agrees : Agrees c o
@@ -581,9 +581,9 @@ module _ (c : Controller) (o : Observer) (s : Same c o) where
         free_line = line_free c.core.line o.line s.core.line;
         start_taken = line_starts c.core.line o.line s.core.line;
         frame = s.core.frame;
-        role = role_in_lem o.tally.stand e;
+        role = role_is_as o.tally.stand e;
         service = serving_is c.core.service o.tally s.joined.service;
-        counts = counted_in_lem o.tally.stand c.core.service o.tally e;
+        counts = counted_same o.tally.stand c.core.service o.tally e;
         level = level_now (is_active o.activity.mode) refl;
         diagnosis = s.diagnosis;
       }
@@ -713,7 +713,7 @@ module _ (c : Controller) (o : Observer) (s : Same c o) (f : Fine c) (y : (v : �
   same_next Reset (reset h) =
       let t : next_t c o.tally Reset ≡ at_reset.tally = accepted_tally c o.tally Reset 0 (reset_all c) h ∙ unfold beside.follow_t at_reset in refl in
       same_as Reset (reset_all c) at_reset (accepted_next c o.tally Reset 0 (reset_all c) h) (taken Reset 0 (reset_all c) h ∙ unfold observer.follow_o in refl) t
-      (unfold reset_all reset_core at_reset unsettled in record { activity = refl; line = line_anew false; frame = refl; reply = no_reply_lem }) reset_rested (unfold reset_all reset_core at_reset in refl)
+      (unfold reset_all reset_core at_reset unsettled in record { activity = refl; line = line_anew false; frame = refl; reply = silent_same }) reset_rested (unfold reset_all reset_core at_reset in refl)
   same_next (Write a v) (wrote h) =
       let x : Controller = host_written c a (v % 256) in
       let u : Observer = written_o c.memory o a (v % 256) in
@@ -737,7 +737,7 @@ module _ (c : Controller) (o : Observer) (s : Same c o) (f : Fine c) (y : (v : �
 pub same_fresh : Same fresh at_reset
 same_fresh =
     record {
-      core = unfold fresh reset_all reset_core at_reset unsettled in record { activity = refl; line = line_anew false; frame = refl; reply = no_reply_lem };
+      core = unfold fresh reset_all reset_core at_reset unsettled in record { activity = refl; line = line_anew false; frame = refl; reply = silent_same };
       joined = unfold at_reset in joined_fresh;
       rested = reset_rested;
       diagnosis = unfold fresh reset_all reset_core at_reset in refl;

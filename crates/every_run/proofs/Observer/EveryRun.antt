@@ -44,12 +44,12 @@ one_not : ◌≡◌ {A = ℕ} 1 0 → ⊥
 one_not h = omega arith
 
 module _ (c : Controller) (o : Observer) (s : Same c o) where
-  seen_in_lem : (e : Event) → beside.seen_in c o.tally e ≡ observer.seen_in c o e
+  seen_alike : (e : Event) → beside.seen_in c o.tally e ≡ observer.seen_in c o e
   unfolding beside.seen_in observer.seen_in answer_o
-  seen_in_lem Reset = refl
-  seen_in_lem (Write a v) = refl
-  seen_in_lem (Read a) = refl
-  seen_in_lem (Slot l) =
+  seen_alike Reset = refl
+  seen_alike (Write a v) = refl
+  seen_alike (Read a) = refl
+  seen_alike (Slot l) =
       let d : ℕ = drives c.core in
       let v : ℕ = sample_of c l in
       ap (λ (b : Bool). pick b (counted_t o.tally d v (answer_c c v)) o.tally) (ap (λ (x : Activity). is_active x.mode) s.core.activity)
@@ -58,7 +58,7 @@ module _ (c : Controller) (o : Observer) (s : Same c o) where
   -- the observer's tally once the sample is judged is the one stepped beside the controller
   seen_same : (e : Event) → seen_t c o.tally e ≡ seen_o c o e
   unfolding seen_t seen_o
-  seen_same e = ap (λ (t : Tally). pick (accepted c e) t o.tally) (seen_in_lem e)
+  seen_same e = ap (λ (t : Tally). pick (accepted c e) t o.tally) (seen_alike e)
 
   -- ---- an answered request
 

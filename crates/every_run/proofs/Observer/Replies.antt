@@ -10,6 +10,7 @@ use lib.Dec.{eqb, ltb}
 use native.Mathlib.Nat.{add_assoc}
 use native.Mathlib.Numerals.{add-one}
 use lib.ListN.{length, get_or, take, drop, length-append}
+use Rattle.std.specs.Prelude.{Option, None, Some}
 use Rattle.line.specs.Bits.{pick, Below}
 use Rattle.line.specs.Frame.{Frame, Fits, size, slots}
 use Rattle.line.specs.Layout.{part_of, half_of}
@@ -35,8 +36,6 @@ use Rattle.every_run.proofs.Sending.Join.{kind, open_same, arbitrated_same, due_
 use Rattle.every_run.proofs.Sending.Frames.{level_coded}
 use Rattle.every_run.proofs.Sending.Bound as bound
 use Rattle.every_run.proofs.Sending.Bound.{Verdicts, on, one_more, opens_on, verdict_of}
-use Rattle.rules.specs.declared.Choice.{Choice}
-use Rattle.rules.specs.declared.Choice.TheVariants.{Nothing, Lowest}
 use Rattle.rules.specs.declared.Phase.TheVariants.{Quiet}
 use Rattle.rules.specs.declared.Reception.{Reception}
 use Rattle.rules.specs.declared.Hearing.{Hearing}
@@ -89,8 +88,8 @@ pub record SameReply (x : ImmediateReply) (y : Replying) : Type 0 where
   pub stands : x ≡ reply_of y
   pub fits : ReplyFits y
 
-pub no_reply_lem : SameReply no_reply silent
-no_reply_lem = record { stands = unfold reply_of in refl; fits = tt }
+pub silent_same : SameReply no_reply silent
+silent_same = record { stands = unfold reply_of in refl; fits = tt }
 
 pub same_going : {x : ImmediateReply} {y : Replying} → SameReply x y → x.going ≡ is_replying y
 same_going {x} {y} s = ap (λ (z : ImmediateReply). z.going) s.stands ∙ going_of y
@@ -133,15 +132,15 @@ on_stands c f levels v d =
 
 -- ---- it is taken in the R/W slot
 
-from_stands : (m : List ℕ) (high low : ℕ) (x : Choice) → reply_by m high low x ≡ reply_of (reply_from m high low x)
+from_stands : (m : List ℕ) (high low : ℕ) (x : Option ℕ) → reply_by m high low x ≡ reply_of (reply_from m high low x)
 unfolding reply_by reply_from reply_of
-from_stands m high low Nothing = refl
-from_stands m high low (Lowest c) = refl
+from_stands m high low None = refl
+from_stands m high low (Some c) = refl
 
-from_fits : {m : List ℕ} → Below 256 m → (high low : ℕ) → high < 256 → low < 256 → (x : Choice) → ReplyFits (reply_from m high low x)
+from_fits : {m : List ℕ} → Below 256 m → (high low : ℕ) → high < 256 → low < 256 → (x : Option ℕ) → ReplyFits (reply_from m high low x)
 unfolding reply_from reply_frame
-from_fits b high low h l Nothing = tt
-from_fits {m} b high low h l (Lowest c) = (fits_with m c high low _ b h l (data_small (buffer_of m c).length), unfold frame_with in refl, unfold size in omega arith, refl)
+from_fits b high low h l None = tt
+from_fits {m} b high low h l (Some c) = (fits_with m c high low _ b h l (data_small (buffer_of m c).length), unfold frame_with in refl, unfold size in omega arith, refl)
 
 low_small : (r : Reception) → Below 256 r.bytes → reply_low r < 256
 unfolding reply_low

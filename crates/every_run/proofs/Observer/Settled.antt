@@ -8,6 +8,7 @@ use native.Mathlib.Omega.{arith}
 use borrow.Author.Tests.{le-ltb, leb-true, eqb-true, eqb-false}
 use lib.Dec.{eqb, ltb, leb}
 use lib.ListN.{get_or}
+use Rattle.std.specs.Prelude.{Option, None, Some}
 use Rattle.line.specs.Bits.{pick, Below}
 use Rattle.line.proofs.Laws.{picked}
 use Rattle.rules.specs.Definitions.Setters.{with_flags, with_report, with_service}
@@ -42,7 +43,7 @@ use Rattle.every_run.proofs.Sending.Beside.{answer_c, ended_c}
 use Rattle.every_run.proofs.Sending.Follow.{idle_service, idle_report, chooses_as, follows_message, follows_error, mode_report}
 use Rattle.every_run.proofs.Sending.Bound.{Coming, asked_good}
 use Rattle.every_run.proofs.Sending.Demand3 as demand
-use Rattle.every_run.proofs.Sending.Demand3.{driven_is, heard_delivery_lem, is_judged, is_fulfilled, asked_same}
+use Rattle.every_run.proofs.Sending.Demand3.{driven_is, delivery_heard, is_judged, is_fulfilled, asked_same}
 use Rattle.rules.proofs.Samples.{sample_small}
 use Rattle.every_run.proofs.Observer.Flags.{flags_follow, is_sent, is_done, is_failed, after_rst, after_tok, after_re, after_rok, after_rnok}
 use Rattle.every_run.proofs.Observer.Replies.{SameReply, same_going, is_silent, is_replier, replied_of, apart_ended}
@@ -51,8 +52,6 @@ use Rattle.every_run.proofs.Sending.Ends.{rest_t, end_t, stopped_is, on_service,
 use Rattle.rules.specs.declared.Flags.{Flags}
 use Rattle.rules.specs.declared.Retries.{Retries}
 use Rattle.rules.specs.declared.Report.{Report}
-use Rattle.rules.specs.declared.Choice.{Choice}
-use Rattle.rules.specs.declared.Choice.TheVariants as choice
 use Rattle.rules.specs.declared.Reception.{Reception}
 use Rattle.rules.specs.declared.Hearing.{Hearing}
 use Rattle.rules.specs.declared.Hearing.TheVariants.{Silent, Follows, Fault, Good}
@@ -75,40 +74,40 @@ use Rattle.rules.specs.declared.Event.TheVariants.{Reset, Write, Read, Slot}
 -- ---- what another module's frame does
 
 -- outside an attempt
-delivered_apart_lem : (k : Core) (y : Replying) (h : Hearing) → SameReply k.reply y → drives_frame k.service.effort.progress ≡ false → is_answered k.service.effort.progress ≡ false
+delivered_apart_is : (k : Core) (y : Replying) (h : Hearing) → SameReply k.reply y → drives_frame k.service.effort.progress ≡ false → is_answered k.service.effort.progress ≡ false
     → delivers (role_in k) h k.reception ≡ delivered_apart y h k.reception
-delivered_apart_lem k y h s d a = go y refl
+delivered_apart_is k y h s d a = go y refl
   where
     by : (u : Bool) → delivers (pick u Receiver Nobody) h k.reception ≡ pick u (heard_delivery h k.reception) Nothing
-    by true = unfold delivers in heard_delivery_lem h k.reception
+    by true = unfold delivers in delivery_heard h k.reception
     by false = unfold delivers in refl
 
     go : (x : Replying) → y ≡ x → delivers (role_in k) h k.reception ≡ delivered_apart x h k.reception
     go silent e = unfold delivered_apart in rw (role_other k.service.effort.progress k.reply.going k.reception.place d a (is_silent k y s d a e)) (by (under_way k.reception.place))
     go (replies c f levels) e = unfold delivered_apart in rw (is_replier k y s d a c f levels e) (unfold delivers in refl)
 
-delivered_in_lem : (x : Stand) (k : Core) (t : Tally) (y : Replying) (h : Hearing) → SameReply k.reply y → k.service ≡ service_in x t → delivers (role_in k) h k.reception ≡ delivered_in x y h k.reception
+delivered_in_is : (x : Stand) (k : Core) (t : Tally) (y : Replying) (h : Hearing) → SameReply k.reply y → k.service ≡ service_in x t → delivers (role_in k) h k.reception ≡ delivered_in x y h k.reception
 unfolding service_in delivered_in
-delivered_in_lem x k t y h s = go x
+delivered_in_is x k t y h s = go x
   where
     own : drives_frame k.service.effort.progress ≡ true → delivers (role_in k) h k.reception ≡ Nothing
     own d = rw (role_sender k.service.effort.progress k.reply.going k.reception.place d) (unfold delivers in refl)
 
     go : (x : Stand) → k.service ≡ service_in x t → delivers (role_in k) h k.reception ≡ delivered_in x y h k.reception
-    go away e = delivered_apart_lem k y h s (rw e (unfold resting at_stage drives_frame is_driving in refl)) (rw e (unfold resting at_stage is_answered is_answering in refl))
-    go between e = delivered_apart_lem k y h s (rw e (unfold made at_stage drives_frame is_driving in refl)) (rw e (unfold made at_stage is_answered is_answering in refl))
+    go away e = delivered_apart_is k y h s (rw e (unfold resting at_stage drives_frame is_driving in refl)) (rw e (unfold resting at_stage is_answered is_answering in refl))
+    go between e = delivered_apart_is k y h s (rw e (unfold made at_stage drives_frame is_driving in refl)) (rw e (unfold made at_stage is_answered is_answering in refl))
     go (opening start) e = own (rw e (unfold made at_stage drives_frame is_driving in refl))
     go (inside start levels) e = own (rw e (unfold made at_stage drives_frame is_driving in refl))
     go (answered start n) e =
         rw (role_asker k.service.effort.progress k.reply.going k.reception.place (rw e (unfold made at_stage drives_frame is_driving in refl)) (rw e (unfold made at_stage is_answered is_answering in refl)))
-        (unfold delivers in heard_delivery_lem h k.reception)
+        (unfold delivers in delivery_heard h k.reception)
 
 -- ---- how the sample ends a reply
 
-replied_in_lem : (x : Stand) (k : Core) (t : Tally) (y : Replying) (v : ℕ) → SameReply k.reply y → k.service ≡ service_in x t
+replied_in_is : (x : Stand) (k : Core) (t : Tally) (y : Replying) (v : ℕ) → SameReply k.reply y → k.service ≡ service_in x t
     → replied_of (reply_verdict (role_in k) k v) k.reply.channel ≡ replied_at x y (drives k) v
 unfolding service_in replied_at
-replied_in_lem x k t y v s = go x
+replied_in_is x k t y v s = go x
   where
     own : drives_frame k.service.effort.progress ≡ true → replied_of (reply_verdict (role_in k) k v) k.reply.channel ≡ settlement.unended
     own d = rw (role_sender k.service.effort.progress k.reply.going k.reception.place d) (unfold reply_verdict replied_of in refl)
@@ -122,14 +121,14 @@ replied_in_lem x k t y v s = go x
         rw (role_asker k.service.effort.progress k.reply.going k.reception.place (rw e (unfold made at_stage drives_frame is_driving in refl)) (rw e (unfold made at_stage is_answered is_answering in refl)))
         (unfold reply_verdict replied_of in refl)
 
-replied_map_lem : (q : Verdict) (m : List ℕ) (n : ℕ) → memory_replied q m n ≡ replied_map (replied_of q n) m
+replied_map_is : (q : Verdict) (m : List ℕ) (n : ℕ) → memory_replied q m n ≡ replied_map (replied_of q n) m
 unfolding memory_replied replied_of replied_map
-replied_map_lem Unjudged m n = refl
-replied_map_lem Goes m n = refl
-replied_map_lem Lost m n = refl
-replied_map_lem (Failed code) m n = refl
-replied_map_lem Done m n = refl
-replied_map_lem Answered m n = refl
+replied_map_is Unjudged m n = refl
+replied_map_is Goes m n = refl
+replied_map_is Lost m n = refl
+replied_map_is (Failed code) m n = refl
+replied_map_is Done m n = refl
+replied_map_is Answered m n = refl
 
 message_replied : (q : Verdict) (x : Report) (n : ℕ) → (report_replied q x n).message ≡ replied_message (replied_of q n) x.message
 unfolding report_replied replied_of replied_message
@@ -160,12 +159,12 @@ failed_broken Answered n = refl
 
 -- ---- the map
 
-delivered_map_lem : (d : Delivery) (m : List ℕ) (r : Reception) → memory_delivered d m r ≡ delivered_map d m r
+delivered_map_is : (d : Delivery) (m : List ℕ) (r : Reception) → memory_delivered d m r ≡ delivered_map d m r
 unfolding memory_delivered delivered_map
-delivered_map_lem Nothing m r = refl
-delivered_map_lem Stored m r = refl
-delivered_map_lem Overflowed m r = refl
-delivered_map_lem Spoiled m r = refl
+delivered_map_is Nothing m r = refl
+delivered_map_is Stored m r = refl
+delivered_map_is Overflowed m r = refl
+delivered_map_is Spoiled m r = refl
 
 -- ---- the marks of a service that ends
 
@@ -183,9 +182,9 @@ pub record Unended (j : Tally) : Type 0 where
   pub errors : exhausted_in j ≡ false
   pub abort : aborted_in j ≡ false
 
-ended_map_lem : (t j : Tally) (m : List ℕ) (n : ℕ) → (is_away t.stand ≡ false → n ≡ t.channel) → (is_away t.stand ≡ true → Unended j) → memory_ended (end_t t j) m n ≡ ended_map t j m
+ended_map_is : (t j : Tally) (m : List ℕ) (n : ℕ) → (is_away t.stand ≡ false → n ≡ t.channel) → (is_away t.stand ≡ true → Unended j) → memory_ended (end_t t j) m n ≡ ended_map t j m
 unfolding end_t rest_t ended_map sent_all
-ended_map_lem t j m n q z = go (is_away t.stand) refl
+ended_map_is t j m n q z = go (is_away t.stand) refl
   where
     go : (b : Bool) → is_away t.stand ≡ b
         → memory_ended (pick (both (not b) (is_away j.stand)) Sent (pick (exhausted_in j) Exhausted (pick (aborted_in j) Aborted (pick (both (pausing j.stand) j.rear) Rearbitrated Going)))) m n
@@ -383,7 +382,7 @@ error_in (answered start n) k t y v s e j h i =
     asker_judged k v d a =
         unfold slot_rule.verdict verdict_as in
         (ap (λ (x : Role). verdict_as x k v) (role_asker k.service.effort.progress k.reply.going k.reception.place d a)
-        ∙ ap (answered_as (hear_frame k.reception (longest_of k) v)) (heard_delivery_lem (hear_frame k.reception (longest_of k) v) k.reception))
+        ∙ ap (answered_as (hear_frame k.reception (longest_of k) v)) (delivery_heard (hear_frame k.reception (longest_of k) v) k.reception))
 
 -- ---- the choice
 
@@ -444,11 +443,11 @@ module _ (m : List ℕ) (k : Core) where
       let e : serving (chosen m n) ≡ true = serving_is (chosen m n) (chosen_t m n) (chosen_is m n) ∙ ap not (chosen_serves n) in
       rw (e, chosen_serves n) (chosen_retries n)
 
-  chosen_shown : (x : Choice) → (pick (serving (choice_of m x)) (with_service (with_report k (report_sending k.report (choice_of m x))) (choice_of m x)) k).report.sending
+  chosen_shown : (x : Option ℕ) → (pick (serving (choice_of m x)) (with_service (with_report k (report_sending k.report (choice_of m x))) (choice_of m x)) k).report.sending
       ≡ pick (not (is_away (choice_t m x).stand)) (retries_t (choice_t m x)) k.report.sending
   unfolding choice_of choice_t
-  chosen_shown choice.Nothing = unfold serving resting in_service is_serving at_stage none is_away in refl
-  chosen_shown (choice.Lowest n) = lowest_shown n
+  chosen_shown None = unfold serving resting in_service is_serving at_stage none is_away in refl
+  chosen_shown (Some n) = lowest_shown n
 
   away_shown : (t : Tally) → t.stand ≡ away → serving k.service ≡ false → Shown t (choose_in away t m (longest_of k) (is_active k.activity.mode) k.reception)
   unfolding choice_made choose_in choose
@@ -519,9 +518,9 @@ module _ (c : Controller) (o : Observer) (s : Same c o) (l : ℕ) where
   abbrev full : Bool
   full = fulfilled_o o (hearing_o c o l)
 
-  service_in_lem : c.core.service ≡ service_in t.stand t
+  service_stands : c.core.service ≡ service_in t.stand t
   unfolding service_of
-  service_in_lem = s.joined.service
+  service_stands = s.joined.service
 
   answers_same : answer_c c v ≡ answer_o o (longest_of c.core) v
   unfolding answer_o
@@ -551,11 +550,11 @@ module _ (c : Controller) (o : Observer) (s : Same c o) (l : ℕ) where
 
   does : delivers (role_in c.core) h r ≡ delivery_in c o l
   does =
-      delivered_in_lem t.stand c.core t o.reply h s.core.reply service_in_lem
+      delivered_in_is t.stand c.core t o.reply h s.core.reply service_stands
       ∙ ap (λ (x : Hearing). delivered_in t.stand o.reply x r) hears ∙ ap (λ (x : Reception). delivered_in t.stand o.reply (hearing_o c o l) x) s.core.frame
 
   replies_so : replied_of q c.core.reply.channel ≡ replied_in c o l
-  replies_so = replied_in_lem t.stand c.core t o.reply v s.core.reply service_in_lem
+  replies_so = replied_in_is t.stand c.core t o.reply v s.core.reply service_stands
 
   unended : is_away t.stand ≡ true → Unended j
   unended a = away_unended t j (away_counted t (drives c.core) v (answer_o o (longest_of c.core) v) a) a s.joined.good.errors
@@ -587,9 +586,9 @@ module _ (c : Controller) (o : Observer) (s : Same c o) (l : ℕ) where
       ap (λ (x : Ending). memory_replied q (memory_ended x (memory_delivered (delivers (role_in c.core) h r) c.memory r) n) y) ends
       ∙ ap (λ (d : Delivery). memory_replied q (memory_ended (pick full Fulfilled (end_t t j)) (memory_delivered d c.memory r) n) y) does
       ∙ ap (λ (x : Reception). memory_replied q (memory_ended (pick full Fulfilled (end_t t j)) (memory_delivered (delivery_in c o l) c.memory x) n) y) s.core.frame
-      ∙ ap (λ (m : List ℕ). memory_replied q (memory_ended (pick full Fulfilled (end_t t j)) m n) y) (delivered_map_lem (delivery_in c o l) c.memory o.frame)
-      ∙ ap (λ (m : List ℕ). memory_replied q m y) (fulfilled_map full t j x n (ended_map_lem t j x n (λ a. ((agrees c o s).counts a).channel) unended))
-      ∙ replied_map_lem q (pick full x (ended_map t j x)) y
+      ∙ ap (λ (m : List ℕ). memory_replied q (memory_ended (pick full Fulfilled (end_t t j)) m n) y) (delivered_map_is (delivery_in c o l) c.memory o.frame)
+      ∙ ap (λ (m : List ℕ). memory_replied q m y) (fulfilled_map full t j x n (ended_map_is t j x n (λ a. ((agrees c o s).counts a).channel) unended))
+      ∙ replied_map_is q (pick full x (ended_map t j x)) y
       ∙ ap (λ (z : Replied). replied_map z (pick full x (ended_map t j x))) replies_so
 
   -- the registers once the sample's effects are taken
@@ -651,8 +650,8 @@ module _ (c : Controller) (o : Observer) (s : Same c o) (l : ℕ) where
       let k : Core = c.core in
       leaves_replied (λ x. x.error) (λ x y z. refl) q closed k.reply.channel
       ∙ leaves_ended (λ x. x.error) (λ x y z. refl) (ending k w h) (report_judged w shown done) done
-      ∙ ap (λ (d : Delivery). (report_judged w (report_delivered d heard_report r) done).error) (delivered_in_lem t.stand k t o.reply h s.core.reply service_in_lem)
-      ∙ error_in t.stand k t o.reply v done service_in_lem (is_judged c t s.joined v) h refl
+      ∙ ap (λ (d : Delivery). (report_judged w (report_delivered d heard_report r) done).error) (delivered_in_is t.stand k t o.reply h s.core.reply service_stands)
+      ∙ error_in t.stand k t o.reply v done service_stands (is_judged c t s.joined v) h refl
       ∙ ap (λ (x : Hearing). pick (untaken_o t.stand x (delivered_in t.stand o.reply x r)) CV (pick (overflows x (delivered_in t.stand o.reply x r)) BOV (code_heard x was.error))) hears
       ∙ ap (λ (y : Reception). pick (untaken_o t.stand (hearing_o c o l) (delivered_in t.stand o.reply (hearing_o c o l) y)) CV (pick (overflows (hearing_o c o l) (delivered_in t.stand o.reply (hearing_o c o l) y)) BOV (code_heard (hearing_o c o l) was.error))) s.core.frame
 
@@ -903,7 +902,7 @@ module _ (c : Controller) (o : Observer) (s : Same c o) (a v : ℕ) where
       let n : ℕ = c.core.service.channel in
       let k : kept_byte c.memory a v ≡ written_map c.memory a v = unfold kept_byte written_map write_only in refl in
       ap (λ (y : Ending). memory_ended y (kept_byte c.memory a v) n) (stops ∙ asked_ends) ∙ ap (λ (m : List ℕ). memory_ended (end_t o.tally u) m n) k
-      ∙ ended_map_lem o.tally u (written_map c.memory a v) n (λ b. ((agrees c o s).counts b).channel) (λ b. away_unended o.tally u (away_asked o.tally a v b) b s.joined.good.errors)
+      ∙ ended_map_is o.tally u (written_map c.memory a v) n (λ b. ((agrees c o s).counts b).channel) (λ b. away_unended o.tally u (away_asked o.tally a v b) b s.joined.good.errors)
 
   written_report : (core_written c.core a v).report ≡ pick (eqb a interrupt_reset) (with_flags c.core.report (cleared c.core.report.flags v)) c.core.report
   unfolding core_written
@@ -1046,9 +1045,9 @@ no_value c o (Slot l) z y = λ h. absurd (false≢true (sym y ∙ h))
 
 -- ---- a host read
 
-status_read_lem : (a : ℕ) → eqb a line_status_at ≡ false → eqb a transmission_status ≡ false → eqb a last_message_status ≡ false → eqb a last_error_status ≡ false → eqb a interrupt_status_at ≡ false → read_only a ≡ false
+status_plain : (a : ℕ) → eqb a line_status_at ≡ false → eqb a transmission_status ≡ false → eqb a last_message_status ≡ false → eqb a last_error_status ≡ false → eqb a interrupt_status_at ≡ false → read_only a ≡ false
 unfolding read_only
-status_read_lem a p q r t u = rw u (go (leb line_status_at a) refl (leb a last_error_status) refl)
+status_plain a p q r t u = rw u (go (leb line_status_at a) refl (leb a last_error_status) refl)
   where
     go : (x : Bool) → leb line_status_at a ≡ x → (y : Bool) → leb a last_error_status ≡ y → either (both x y) false ≡ false
     go true e true d =
@@ -1057,9 +1056,9 @@ status_read_lem a p q r t u = rw u (go (leb line_status_at a) refl (leb a last_e
     go false e y d = refl
 
 module _ (c : Controller) (o : Observer) (s : Same c o) (a : ℕ) where
-  line_status_lem : line_status_of c.core ≡ line_status (is_asleep o.activity.mode) (is_idle o.activity.mode) o.diagnosis (not (is_away o.tally.stand)) (under_way o.frame.place)
+  line_status_is : line_status_of c.core ≡ line_status (is_asleep o.activity.mode) (is_idle o.activity.mode) o.diagnosis (not (is_away o.tally.stand)) (under_way o.frame.place)
   unfolding line_status_of
-  line_status_lem = rw (serving_is c.core.service o.tally s.joined.service, s.core.activity, s.core.frame, s.diagnosis)
+  line_status_is = rw (serving_is c.core.service o.tally s.joined.service, s.core.activity, s.core.frame, s.diagnosis)
 
   abbrev Reads : Bool → Bool → Bool → Bool → Bool → Type 0
   Reads p q r t u = byte_read c a
@@ -1069,12 +1068,12 @@ module _ (c : Controller) (o : Observer) (s : Same c o) (a : ℕ) where
   reads : (p : Bool) → eqb a line_status_at ≡ p → (q : Bool) → eqb a transmission_status ≡ q → (r : Bool) → eqb a last_message_status ≡ r → (t : Bool) → eqb a last_error_status ≡ t
       → (u : Bool) → eqb a interrupt_status_at ≡ u → Reads p q r t u
   unfolding byte_read status_read
-  reads true p q q' r r' t t' u u' = rw (eqb-true a line_status_at p) (unfold read_only in line_status_lem)
+  reads true p q q' r r' t t' u u' = rw (eqb-true a line_status_at p) (unfold read_only in line_status_is)
   reads false p true q r r' t t' u u' = rw (eqb-true a transmission_status q) (unfold read_only in refl)
   reads false p false q true r t t' u u' = rw (eqb-true a last_message_status r) (unfold read_only in refl)
   reads false p false q false r true t u u' = rw (eqb-true a last_error_status t) (unfold read_only in refl)
   reads false p false q false r false t true u = rw (eqb-true a interrupt_status_at u) (unfold read_only in refl)
-  reads false p false q false r false t false u = rw (status_read_lem a p q r t u)
+  reads false p false q false r false t false u = rw (status_plain a p q r t u)
 
   host_reads : byte_read c a ≡ read_o c o a
   unfolding read_o

@@ -176,8 +176,8 @@ sender_reply : (k : Core) (v : ℕ) → drives_frame k.service.effort.progress �
 unfolding reply_verdict
 sender_reply k v d = rw (role_sender k.service.effort.progress k.reply.going k.reception.place d)
 
-no_reply_lem : (k : Core) (v : ℕ) → k.reply.going ≡ false → reply_verdict (role_in k) k v ≡ Unjudged
-no_reply_lem k v e = go (role_is k.service.effort.progress k.reply.going k.reception.place)
+reply_unjudged : (k : Core) (v : ℕ) → k.reply.going ≡ false → reply_verdict (role_in k) k v ≡ Unjudged
+reply_unjudged k v e = go (role_is k.service.effort.progress k.reply.going k.reception.place)
   where
     go : {x : Role} → RoleIs k.service.effort.progress k.reply.going k.reception.place x → reply_verdict x k v ≡ Unjudged
     go (role.sends d) = unfold reply_verdict in refl
@@ -227,7 +227,7 @@ module _ (c : Controller) (v : ℕ) where
   unmatched_map : replies c ≡ false → c.core.reception.winner.matched ≡ false
       → (sampled_slot c v).memory ≡ memory_ended (ending c.core w h) c.memory c.core.service.channel
   unmatched_map y e =
-      map_after (unmatched_delivers (role_in c.core) h c.core.reception e) ∙ unreplied _ c.core.reply.channel (no_reply_lem c.core v y)
+      map_after (unmatched_delivers (role_in c.core) h c.core.reception e) ∙ unreplied _ c.core.reply.channel (reply_unjudged c.core v y)
 
   module _ (s : Steady c.core) (r : role_in c.core ≡ Replier) where
     replier_going : ending c.core w h ≡ Going
@@ -308,9 +308,9 @@ module _ (m : List ℕ) (k : Core) (e : k.service.effort.progress.stage ≡ Send
   unfolding start_made
   started_on = not_started
 
-follows_on_lem : (m : List ℕ) (k : Core) → k.service.effort.progress.stage ≡ Sending → (follows_on m k).service ≡ k.service
+sending_stays : (m : List ℕ) (k : Core) → k.service.effort.progress.stage ≡ Sending → (follows_on m k).service ≡ k.service
 unfolding follows_on
-follows_on_lem m k e =
+sending_stays m k e =
     let i : (idle_due k).service.effort.progress.stage ≡ Sending = ap (λ (s : Service). s.effort.progress.stage) (idle_service k) ∙ e in
     ap (λ (x : Core). (start_made m x).service) (not_chosen m (idle_due k) i) ∙ started_on m (idle_due k) i ∙ idle_service k
 
@@ -329,7 +329,7 @@ sampled_on c v d e =
     let m : List ℕ = memory_judged c.memory c.core w q h in
     let j : (core_judged m c.core w q h v).service.effort.progress.stage ≡ Sending =
     ap (λ (x : Verdict). (core_judged m c.core x q h v).service.effort.progress.stage) e ∙ judged_on m c.core q h v d in
-    ap (λ (s : Service). s.effort.progress.stage) (follows_on_lem m (core_judged m c.core w q h v) j) ∙ j
+    ap (λ (s : Service). s.effort.progress.stage) (sending_stays m (core_judged m c.core w q h v) j) ∙ j
 
 -- so does the reply
 
@@ -547,17 +547,17 @@ module _ (c : Controller) (l : ℕ) where
               ap (λ (y : Controller). y.core.reply.going) (slot_sampled c l i a) ∙ reply_on c v s (steady_role c.core s g) e ∙ g;
         }
 
-own_in_lem : (c : Controller) → Steady c.core → (e : Event) → OwnIn c e
-own_in_lem c s Reset = between_reset c
-own_in_lem c s (Write a x) = between_write c a x
-own_in_lem c s (Read a) = between_read c a
-own_in_lem c s (Slot l) = (own c l, own_reply c l s)
+own_in_event : (c : Controller) → Steady c.core → (e : Event) → OwnIn c e
+own_in_event c s Reset = between_reset c
+own_in_event c s (Write a x) = between_write c a x
+own_in_event c s (Read a) = between_read c a
+own_in_event c s (Slot l) = (own c l, own_reply c l s)
 
 -- ---- every list of events
 
 from : (c : Controller) → Steady c.core → (es : List Event) → OwnOver c es
 from c s [] = tt
-from c s (e ∷ es) = (own_in_lem c s e, from (next c e) (steady_next c e s) es)
+from c s (e ∷ es) = (own_in_event c s e, from (next c e) (steady_next c e s) es)
 
 pub own_every : (es : List Event) → OwnOver fresh es
 own_every es = from fresh steady_fresh es

@@ -9,6 +9,7 @@ use native.Mathlib.Omega.{arith}
 use borrow.Author.Tests.{le-ltb, ne_eqb, eqb-true}
 use lib.Dec.{eqb, ltb}
 use lib.ListN.{get_or}
+use Rattle.std.specs.Prelude.{Option, None, Some}
 use Rattle.line.specs.Bits.{pick}
 use Rattle.line.proofs.Laws.{picked, pick_same}
 use Rattle.diagnosis.specs.declared.Diagnosis.{Diagnosis}
@@ -44,8 +45,6 @@ use Rattle.rules.specs.declared.Stage.TheVariants.{Resting, Waiting, Opening, Se
 use Rattle.rules.specs.declared.Progress.{Progress}
 use Rattle.rules.specs.declared.Effort.{Effort}
 use Rattle.rules.specs.declared.Service.{Service}
-use Rattle.rules.specs.declared.Choice.{Choice}
-use Rattle.rules.specs.declared.Choice.TheVariants.{Nothing, Lowest}
 use Rattle.rules.specs.declared.Verdict.{Verdict}
 use Rattle.rules.specs.declared.Verdict.TheVariants.{Unjudged, Goes, Lost, Failed, Done, Answered}
 use Rattle.rules.specs.declared.Ending.{Ending}
@@ -100,9 +99,9 @@ choose_still : (m : List ℕ) (longest : ℕ) → stopped (choose m longest) ≡
 unfolding choose
 choose_still m longest = go (lowest_ready m longest)
   where
-    go : (x : Choice) → stopped (choice_of m x) ≡ Going
-    go Nothing = unfold choice_of in resting_still
-    go (Lowest c) = unfold choice_of in chosen_still m c
+    go : (x : Option ℕ) → stopped (choice_of m x) ≡ Going
+    go None = unfold choice_of in resting_still
+    go (Some c) = unfold choice_of in chosen_still m c
 
 choice_still : (m : List ℕ) (k : Core) → stopped k.service ≡ Going → stopped (choice_made m k).service ≡ Going
 unfolding choice_made
@@ -344,10 +343,10 @@ idle_beside k b = go k.activity.waiting (serving k.service)
     go true false g = absurd (false≢true (unfold idled no_reply in g))
     go false d g = b g
 
-chosen_apart : (f : Progress → Bool) → f resting.effort.progress ≡ false → f (at_stage Waiting 0) ≡ false → (m : List ℕ) (x : Choice) → f (choice_of m x).effort.progress ≡ false
+chosen_apart : (f : Progress → Bool) → f resting.effort.progress ≡ false → f (at_stage Waiting 0) ≡ false → (m : List ℕ) (x : Option ℕ) → f (choice_of m x).effort.progress ≡ false
 unfolding choice_of chosen
-chosen_apart f z q m Nothing = z
-chosen_apart f z q m (Lowest c) = q
+chosen_apart f z q m None = z
+chosen_apart f z q m (Some c) = q
 
 choice_apart : (f : Progress → Bool) → f resting.effort.progress ≡ false → f (at_stage Waiting 0) ≡ false
     → (m : List ℕ) (k : Core) → f k.service.effort.progress ≡ false → f (choice_made m k).service.effort.progress ≡ false

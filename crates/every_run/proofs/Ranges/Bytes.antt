@@ -9,6 +9,7 @@ use native.Mathlib.Omega.{arith}
 use borrow.Author.Tests.{leb-true, ne_eqb, eqb-true}
 use lib.Dec.{eqb, leb}
 use lib.ListN.{get_or, set, take, drop, replicate}
+use Rattle.std.specs.Prelude.{Option, None, Some}
 use Rattle.line.specs.Bits.{pick, Below, none, one}
 use Rattle.line.specs.Frame.{Fits}
 use Rattle.line.proofs.Laws.{picked}
@@ -21,8 +22,6 @@ use Rattle.rules.proofs.Mailbox.{mailbox_length}
 use Rattle.rules.proofs.Matching.Lowest.{found}
 use Rattle.every_run.proofs.Ranges.Limits.{WinnerLimits}
 use Rattle.rules.specs.declared.Buffer.{Buffer}
-use Rattle.rules.specs.declared.Choice.{Choice}
-use Rattle.rules.specs.declared.Choice.TheVariants.{Nothing, Lowest}
 
 -- ---- rows
 
@@ -104,12 +103,12 @@ not_detecting : (bits : ℕ) → immediate_reply bits ≡ true → request_detec
 unfolding immediate_reply request_detection
 not_detecting bits e = ne_eqb bits 0b1010 (λ i. omega (arith, eqb-true bits 0b1000 e))
 
-replier_settles : (m : List ℕ) (x : Choice) (c : ℕ) → if_replies m x ≡ Lowest c → (x ≡ Lowest c) × (immediate_reply (status_bits (channel_at m c)) ≡ true)
+replier_settles : (m : List ℕ) (x : Option ℕ) (c : ℕ) → if_replies m x ≡ Some c → (x ≡ Some c) × (immediate_reply (status_bits (channel_at m c)) ≡ true)
 unfolding if_replies
-replier_settles m Nothing c e = absurd (let z : ◌≡◌ {A = ℕ} 0 1 = cc in omega arith)
-replier_settles m (Lowest d) c e = go (immediate_reply (status_bits (channel_at m d))) refl e
+replier_settles m None c e = absurd (let z : ◌≡◌ {A = ℕ} 0 1 = cc in omega arith)
+replier_settles m (Some d) c e = go (immediate_reply (status_bits (channel_at m d))) refl e
   where
-    go : (b : Bool) → immediate_reply (status_bits (channel_at m d)) ≡ b → pick b (Lowest d) Nothing ≡ Lowest c → (Lowest d ≡ Lowest c) × (immediate_reply (status_bits (channel_at m c)) ≡ true)
+    go : (b : Bool) → immediate_reply (status_bits (channel_at m d)) ≡ b → pick b (Some d) None ≡ Some c → (Some d ≡ Some c) × (immediate_reply (status_bits (channel_at m c)) ≡ true)
     go true i n = let k : d ≡ c = cc in (n, rw (← k) i)
     go false i n = absurd (let z : ◌≡◌ {A = ℕ} 0 1 = cc in omega arith)
 
@@ -121,10 +120,10 @@ replier_sendable m longest high low c f i =
     let g : both (immediate_reply (status_bits (channel_at m c))) (both n q) ≡ true = settles_sendable (matches (twelve (channel_at m c).high (channel_at m c).low) (twelve (channel_at m c).mask_high (channel_at m c).mask_low) (twelve high low)) (request_detection (status_bits (channel_at m c))) (buffer_of m c).legal (both (immediate_reply (status_bits (channel_at m c))) (both n q)) f (not_detecting (status_bits (channel_at m c)) i) in
     (both_true n q (both_true (immediate_reply (status_bits (channel_at m c))) (both n q) g).1).1
 
-pub fits_reply : (m : List ℕ) (longest high low c : ℕ) → Below 256 m → high < 256 → low < 256 → replier_for m longest high low ≡ Lowest c → Fits longest (reply_frame m c high low)
+pub fits_reply : (m : List ℕ) (longest high low c : ℕ) → Below 256 m → high < 256 → low < 256 → replier_for m longest high low ≡ Some c → Fits longest (reply_frame m c high low)
 unfolding replier_for reply_frame
 fits_reply m longest high low c b h l e =
-    let r : (lowest (settles_reply m longest high low) channels 0 ≡ Lowest c) × (immediate_reply (status_bits (channel_at m c)) ≡ true) = replier_settles m (lowest (settles_reply m longest high low) channels 0) c e in
+    let r : (lowest (settles_reply m longest high low) channels 0 ≡ Some c) × (immediate_reply (status_bits (channel_at m c)) ≡ true) = replier_settles m (lowest (settles_reply m longest high low) channels 0) c e in
     let f : settles_reply m longest high low c ≡ true = (found (settles_reply m longest high low) channels 0 c r.0).0 in
     fits_with m c high low _ b h l (ready_small m longest c (replier_sendable m longest high low c f r.1))
 
@@ -171,40 +170,40 @@ pub record BufferLimits (b : Buffer) : Type 0 where
   pub pointer : b.pointer ≤ 127
   pub length : b.length ≤ 31
 
-no_buffer_lem : BufferLimits no_buffer
+no_buffer_limits : BufferLimits no_buffer
 unfolding no_buffer
-no_buffer_lem = record { pointer = omega arith; length = omega arith }
+no_buffer_limits = record { pointer = omega arith; length = omega arith }
 
-own_buffer_lem : {m : List ℕ} → Below 256 m → (c : ℕ) → BufferLimits (own_buffer (channel_at m c))
+own_buffer_limits : {m : List ℕ} → Below 256 m → (c : ℕ) → BufferLimits (own_buffer (channel_at m c))
 unfolding own_buffer channel_at length_of
-own_buffer_lem {m} b c =
+own_buffer_limits {m} b c =
     let h = at_below b (base c + 3) in
-    picked BufferLimits (eqb (length_of (channel_at m c).status) 0) no_buffer _ (λ e. no_buffer_lem) (λ e. record { pointer = omega arith; length = omega arith })
+    picked BufferLimits (eqb (length_of (channel_at m c).status) 0) no_buffer _ (λ e. no_buffer_limits) (λ e. record { pointer = omega arith; length = omega arith })
 
-linked_buffer_lem : {m : List ℕ} → Below 256 m → (c link : ℕ) → BufferLimits (linked_buffer m c link)
+linked_buffer_limits : {m : List ℕ} → Below 256 m → (c link : ℕ) → BufferLimits (linked_buffer m c link)
 unfolding linked_buffer
-linked_buffer_lem {m} b c link =
-    picked BufferLimits (leb channels link) no_buffer _ (λ e. no_buffer_lem)
-    (λ e. picked BufferLimits (eqb link c) no_buffer _ (λ d. no_buffer_lem) (λ d. own_buffer_lem b link))
+linked_buffer_limits {m} b c link =
+    picked BufferLimits (leb channels link) no_buffer _ (λ e. no_buffer_limits)
+    (λ e. picked BufferLimits (eqb link c) no_buffer _ (λ d. no_buffer_limits) (λ d. own_buffer_limits b link))
 
 pub buffer_limits : {m : List ℕ} → Below 256 m → (c : ℕ) → BufferLimits (buffer_of m c)
 unfolding buffer_of
 buffer_limits {m} b c =
     picked BufferLimits (eqb (length_of (channel_at m c).status) 0) (linked_buffer m c ((channel_at m c).pointer % 16)) (own_buffer (channel_at m c))
-    (λ e. linked_buffer_lem b c _) (λ e. own_buffer_lem b c)
+    (λ e. linked_buffer_limits b c _) (λ e. own_buffer_limits b c)
 
 -- ---- who takes a frame, who sends
 
 -- a channel that is found is one of the fourteen
-pub data Named : Choice → Type 0 where
-  nothing : Named Nothing
-  channel : {c : ℕ} → c ≤ 13 → Named (Lowest c)
+pub data Named : Option ℕ → Type 0 where
+  nothing : Named None
+  channel : {c : ℕ} → c ≤ 13 → Named (Some c)
 
 lowest_named : (passes : ℕ → Bool) (left c : ℕ) → c + left ≤ channels → Named (lowest passes left c)
 unfolding lowest
 lowest_named passes zero c h = nothing
 lowest_named passes (suc left) c h =
-    picked Named (passes c) (Lowest c) (lowest passes left (c + 1)) (λ e. channel (omega arith)) (λ e. lowest_named passes left (c + 1) (omega arith))
+    picked Named (passes c) (Some c) (lowest passes left (c + 1)) (λ e. channel (omega arith)) (λ e. lowest_named passes left (c + 1) (omega arith))
 
 pub ready_named : (m : List ℕ) (longest : ℕ) → Named (lowest_ready m longest)
 unfolding lowest_ready
@@ -218,15 +217,15 @@ pub replier_named : (m : List ℕ) (longest high low : ℕ) → Named (replier_f
 unfolding replier_for
 replier_named m longest high low = go (lowest (settles_reply m longest high low) channels 0) (lowest_named (settles_reply m longest high low) channels 0 (omega arith))
   where
-    go : (x : Choice) → Named x → Named (if_replies m x)
-    go Nothing n = unfold if_replies in nothing
-    go (Lowest c) (channel h) = unfold if_replies in picked Named (immediate_reply (status_bits (channel_at m c))) (Lowest c) Nothing (λ e. channel h) (λ e. nothing)
+    go : (x : Option ℕ) → Named x → Named (if_replies m x)
+    go None n = unfold if_replies in nothing
+    go (Some c) (channel h) = unfold if_replies in picked Named (immediate_reply (status_bits (channel_at m c))) (Some c) None (λ e. channel h) (λ e. nothing)
 
 pub nobody_limits : WinnerLimits nobody
 unfolding nobody
 nobody_limits = record { channel = omega arith; pointer = omega arith; length = omega arith }
 
-won_limits : {m : List ℕ} → Below 256 m → {x : Choice} → Named x → WinnerLimits (won m x)
+won_limits : {m : List ℕ} → Below 256 m → {x : Option ℕ} → Named x → WinnerLimits (won m x)
 unfolding won winner_of
 won_limits b nothing = nobody_limits
 won_limits b (channel {c = c} h) = let l = buffer_limits b c in record { channel = h; pointer = l.pointer; length = l.length }

@@ -30,7 +30,7 @@ use Rattle.rules.specs.Definitions.Answers.{number}
 use Rattle.rules.specs.Definitions.Run.{fresh, refuse, accept, unless_refused, host_write, answered, rested_slot, step, next, after}
 use Rattle.every_run.specs.Tally.{none}
 use Rattle.every_run.proofs.Steps.{Step, refusal, reset, wrote, gave, went, rested, step_of, resting_cases, refused_next, accepted_next}
-use Rattle.every_run.proofs.Ranges.Limits.{limits_in_range}
+use Rattle.every_run.proofs.Ranges.Limits.{Fine, limits_in_range}
 use Rattle.every_run.proofs.Ranges.Reach.{fine_after, in_range_other}
 use Rattle.every_run.proofs.OwnFrames.EveryRun.{ended_elsewhere, replied_elsewhere}
 use Rattle.rules.specs.declared.Reception.{Reception}
@@ -221,8 +221,11 @@ counting_after es = counting_from fresh es counting_fresh
 
 -- ---- number 6
 
+pub kept_in_range : (c : Controller) → Fine c → Counting c → in_range c ≡ true
+kept_in_range c f k = limits_in_range c f.limits (unfold Counting in k)
+
 pub never_six : (es : List Event) → in_range (after fresh es) ≡ true
-never_six es = limits_in_range (after fresh es) (fine_after es).limits (unfold Counting in counting_after es)
+never_six es = kept_in_range (after fresh es) (fine_after es) (counting_after es)
 
 pub never_refused_six : (es : List Event) (e : Event) → (step (after fresh es) e).refused ≡ 6 → ⊥
 never_refused_six es e = in_range_other (after fresh es) e (never_six es)

@@ -109,17 +109,17 @@ answered_awaited follows d = on
 answered_awaited (fault code h) d = broken code h
 answered_awaited good d = good_awaited d
 
-verdict_as_lem : (x : Role) (k : Core) (v : ℕ) → Tried k.service.effort v (verdict_as x k v)
+verdict_as_tried : (x : Role) (k : Core) (v : ℕ) → Tried k.service.effort v (verdict_as x k v)
 unfolding verdict_as
-verdict_as_lem Nobody k v = unjudged
-verdict_as_lem Receiver k v = unjudged
-verdict_as_lem Sender k v = judged (slot_judged k.service.effort.frame k.service.effort.progress.at v)
-verdict_as_lem Asker k v = awaited (answered_awaited (frame_heard k.reception (longest_of k) v) (delivery_of (hear_frame k.reception (longest_of k) v) k.reception))
-verdict_as_lem Replier k v = unjudged
+verdict_as_tried Nobody k v = unjudged
+verdict_as_tried Receiver k v = unjudged
+verdict_as_tried Sender k v = judged (slot_judged k.service.effort.frame k.service.effort.progress.at v)
+verdict_as_tried Asker k v = awaited (answered_awaited (frame_heard k.reception (longest_of k) v) (delivery_of (hear_frame k.reception (longest_of k) v) k.reception))
+verdict_as_tried Replier k v = unjudged
 
 pub verdict_tried : (k : Core) (v : ℕ) → Tried k.service.effort v (verdict k v)
 unfolding verdict
-verdict_tried k v = verdict_as_lem (role_in k) k v
+verdict_tried k v = verdict_as_tried (role_in k) k v
 
 ends_so : (k : Core) (w : Verdict) (h : Hearing) → Spent (service_judged w k.service) → Ends (service_judged w k.service) (ending k w h)
 unfolding ending

@@ -73,34 +73,34 @@ ended_received r f =
       bytes = nibble_below f.bytes r.nibbles r.bits;
     }
 
-more_nibbles_lem : (n : ℕ) → more_nibbles n ≤ most_nibbles capacity
+nibbles_most : (n : ℕ) → more_nibbles n ≤ most_nibbles capacity
 unfolding more_nibbles
-more_nibbles_lem n = picked (λ x. x ≤ most_nibbles capacity) (ltb n (most_nibbles capacity)) (n + 1) (most_nibbles capacity) (λ e. omega (arith, ltb-true)) (λ e. omega arith)
+nibbles_most n = picked (λ x. x ≤ most_nibbles capacity) (ltb n (most_nibbles capacity)) (n + 1) (most_nibbles capacity) (λ e. omega (arith, ltb-true)) (λ e. omega arith)
 
 nibble_received : (r : Reception) → Received r → Received (nibble_taken r)
 unfolding nibble_taken bits_laid entered at_place
 nibble_received r f =
     record {
-      limits = record { at = omega arith; nibbles = more_nibbles_lem r.nibbles; bits = omega arith; winner = f.limits.winner };
+      limits = record { at = omega arith; nibbles = nibbles_most r.nibbles; bits = omega arith; winner = f.limits.winner };
       bytes = nibble_below f.bytes r.nibbles r.bits;
     }
 
-follow_in_lem : (p : Phase) (r : Reception) (v : ℕ) → Received r → Received (follow_in p r v)
+follow_received : (p : Phase) (r : Reception) (v : ℕ) → Received r → Received (follow_in p r v)
 unfolding follow_in follow_start follow_body follow_acknowledge follow_end
-follow_in_lem Quiet r v f = begun_received
-follow_in_lem Start r v f =
+follow_received Quiet r v f = begun_received
+follow_received Start r v f =
     picked Received (ltb r.place.at 9) (moved r) (entered r Body) (λ e. moved_received r f (omega (arith, ltb-true))) (λ e. entered_received r Body f)
-follow_in_lem Body r v f =
+follow_received Body r v f =
     picked Received (ltb r.place.at 4) (bit_taken r v) _ (λ e. bit_received r v f (omega (arith, ltb-true)))
     (λ e. picked Received (eqb v (r.bits % 2)) (data_ended r) (nibble_taken r) (λ d. ended_received r f) (λ d. nibble_received r f))
-follow_in_lem Acknowledge r v f =
+follow_received Acknowledge r v f =
     picked Received (eqb r.place.at 0) (bit_taken r v) (entered r End) (λ e. bit_received r v f (omega (arith, eqb-true))) (λ e. entered_received r End f)
-follow_in_lem End r v f =
+follow_received End r v f =
     picked Received (ltb r.place.at 7) (moved r) r (λ e. moved_received r f (omega (arith, ltb-true))) (λ e. f)
 
 followed_received : (r : Reception) (v : ℕ) → Received r → Received (followed r v)
 unfolding followed
-followed_received r v f = follow_in_lem r.place.phase r v f
+followed_received r v f = follow_received r.place.phase r v f
 
 named_received : (r : Reception) {m : List ℕ} → Below 256 m → Received r → Received (winner_taken r m)
 unfolding winner_taken

@@ -9,6 +9,7 @@ use native.Mathlib.Omega.{arith}
 use borrow.Author.Tests.{ltb-true, ltb-false}
 use lib.Dec.{ltb}
 use lib.ListN.{get_or}
+use Rattle.std.specs.Prelude.{Option}
 use Rattle.line.specs.Bits.{Below}
 use Rattle.line.specs.Frame.{size}
 use Rattle.line.proofs.Laws.{picked}
@@ -27,7 +28,6 @@ use Rattle.every_run.proofs.Ranges.Bytes.{data_small, fits_sent, setting_small, 
 use Rattle.every_run.proofs.Ranges.Reception.{Heard, silent, follows, fault, good}
 use Rattle.rules.specs.Definitions.Slots.{service_judged}
 use Rattle.rules.specs.declared.Report.{Report}
-use Rattle.rules.specs.declared.Choice.{Choice}
 use Rattle.rules.specs.declared.Line.{Line}
 use Rattle.rules.specs.declared.Reception.{Reception}
 use Rattle.rules.specs.declared.Coded.{Coded}
@@ -236,7 +236,7 @@ pub taken_limits : (m : List ℕ) (longest : ℕ) (r : Reception) → ReplyLimit
 unfolding reply_taken reply_by
 taken_limits m longest r = go (replier_named m longest (get_or r.bytes 0 0) (reply_low r))
   where
-    go : {x : Choice} → Named x → ReplyLimits (reply_by m (get_or r.bytes 0 0) (reply_low r) x)
+    go : {x : Option ℕ} → Named x → ReplyLimits (reply_by m (get_or r.bytes 0 0) (reply_low r) x)
     go nothing = none_replies
     go (channel {c = c} h) =
         let long = mailbox_length m (buffer_of m c).pointer 1 (data_in (buffer_of m c).length) in
@@ -252,7 +252,7 @@ chosen_served {m} b c h =
       retries = omega arith;
     }
 
-choice_served : {m : List ℕ} → Below 256 m → {x : Choice} → Named x → Served (choice_of m x)
+choice_served : {m : List ℕ} → Below 256 m → {x : Option ℕ} → Named x → Served (choice_of m x)
 unfolding choice_of
 choice_served b nothing = resting_served
 choice_served b (channel {c = c} h) = chosen_served b c h

@@ -8,6 +8,7 @@ use native.Mathlib.Omega.{arith}
 use borrow.Author.Tests.{eqb-true}
 use lib.Dec.{eqb, ltb}
 use lib.ListN.{length, get_or, length-append}
+use Rattle.std.specs.Prelude.{Option, None, Some}
 use Rattle.line.specs.Bits.{pick}
 use Rattle.line.specs.Frame.{Frame, size}
 use Rattle.line.specs.Layout.{part_of, half_of}
@@ -39,8 +40,6 @@ use Rattle.every_run.proofs.Receiving.InvariantLaws.{invariant_under_way, invari
 use Rattle.every_run.proofs.Receiving.OwnAttempt.{in_start, in_code}
 use Rattle.every_run.proofs.Receiving.Log.{At, Following, apart, receiving, asking, starting, driving, closing, replying, replied}
 use Rattle.every_run.proofs.Receiving.LogSteps.{Logs, apart_stands, next_logs}
-use Rattle.rules.specs.declared.Choice.{Choice}
-use Rattle.rules.specs.declared.Choice.TheVariants.{Nothing, Lowest}
 use Rattle.rules.specs.declared.Reception.{Reception}
 use Rattle.rules.specs.declared.Hearing.{Hearing}
 use Rattle.rules.specs.declared.Hearing.TheVariants.{Silent, Follows, Fault, Good}
@@ -68,47 +67,47 @@ at_stand l t s e a = subst (λ (x : Stand). Aligned x l) (sym e) a
 
 -- ---- the end of a service, the choice, the start, what the host asks
 
-ended_in_lem : (l : Log) (s : Stand) (t : Tally) → t.stand ≡ s → Aligned s l → A l (ended_in s t)
+ended_keeps : (l : Log) (s : Stand) (t : Tally) → t.stand ≡ s → Aligned s l → A l (ended_in s t)
 unfolding ended_in
-ended_in_lem l away t e a = unfold none in tt
-ended_in_lem l between t e a = picked (A l) (given_up t) none t (λ d. unfold none in tt) (λ d. at_stand l t between e tt)
-ended_in_lem l (opening start) t e a = picked (A l) (given_up t) none t (λ d. unfold none in tt) (λ d. at_stand l t (opening start) e tt)
-ended_in_lem l (inside start levels) t e a = at_stand l t (inside start levels) e tt
-ended_in_lem l (answered start n) t e a = at_stand l t (answered start n) e a
+ended_keeps l away t e a = unfold none in tt
+ended_keeps l between t e a = picked (A l) (given_up t) none t (λ d. unfold none in tt) (λ d. at_stand l t between e tt)
+ended_keeps l (opening start) t e a = picked (A l) (given_up t) none t (λ d. unfold none in tt) (λ d. at_stand l t (opening start) e tt)
+ended_keeps l (inside start levels) t e a = at_stand l t (inside start levels) e tt
+ended_keeps l (answered start n) t e a = at_stand l t (answered start n) e a
 
 ended_aligned : (l : Log) (t : Tally) → A l t → A l (ended_t t)
 unfolding ended_t
-ended_aligned l t a = ended_in_lem l t.stand t refl a
+ended_aligned l t a = ended_keeps l t.stand t refl a
 
-choice_aligned : (l : Log) (m : List ℕ) (x : Choice) → A l (choice_t m x)
+choice_aligned : (l : Log) (m : List ℕ) (x : Option ℕ) → A l (choice_t m x)
 unfolding choice_t
-choice_aligned l m Nothing = unfold none in tt
-choice_aligned l m (Lowest c) = unfold chosen_t in tt
+choice_aligned l m None = unfold none in tt
+choice_aligned l m (Some c) = unfold chosen_t in tt
 
-choose_in_lem : (l : Log) (s : Stand) (t : Tally) (m : List ℕ) (longest : ℕ) (active : Bool) (r : Reception) → t.stand ≡ s → Aligned s l → A l (choose_in s t m longest active r)
+choose_aligned : (l : Log) (s : Stand) (t : Tally) (m : List ℕ) (longest : ℕ) (active : Bool) (r : Reception) → t.stand ≡ s → Aligned s l → A l (choose_in s t m longest active r)
 unfolding choose_in
-choose_in_lem l away t m longest active r e a =
+choose_aligned l away t m longest active r e a =
     picked (A l) active _ t (λ i. picked (A l) (under_way r.place) t (choice_t m (lowest_ready m longest)) (λ j. at_stand l t away e tt) (λ j. choice_aligned l m (lowest_ready m longest)))
     (λ i. at_stand l t away e tt)
-choose_in_lem l between t m longest active r e a = at_stand l t between e tt
-choose_in_lem l (opening start) t m longest active r e a = at_stand l t (opening start) e tt
-choose_in_lem l (inside start levels) t m longest active r e a = at_stand l t (inside start levels) e tt
-choose_in_lem l (answered start n) t m longest active r e a = at_stand l t (answered start n) e a
+choose_aligned l between t m longest active r e a = at_stand l t between e tt
+choose_aligned l (opening start) t m longest active r e a = at_stand l t (opening start) e tt
+choose_aligned l (inside start levels) t m longest active r e a = at_stand l t (inside start levels) e tt
+choose_aligned l (answered start n) t m longest active r e a = at_stand l t (answered start n) e a
 
-start_in_lem : (l : Log) (s : Stand) (t : Tally) (m : List ℕ) (is_free : Bool) (r : Reception) → t.stand ≡ s → Aligned s l → A l (start_in s t m is_free r)
+start_aligned : (l : Log) (s : Stand) (t : Tally) (m : List ℕ) (is_free : Bool) (r : Reception) → t.stand ≡ s → Aligned s l → A l (start_in s t m is_free r)
 unfolding start_in
-start_in_lem l away t m is_free r e a = at_stand l t away e tt
-start_in_lem l between t m is_free r e a =
+start_aligned l away t m is_free r e a = at_stand l t away e tt
+start_aligned l between t m is_free r e a =
     picked (A l) (start_ended r) _ _ (λ i. tt)
     (λ i. picked (A l) (under_way r.place) t _ (λ j. at_stand l t between e tt)
     (λ j. picked (A l) (both (autonomous (get_or m transmit_control 0)) is_free) _ t (λ k. tt) (λ k. at_stand l t between e tt)))
-start_in_lem l (opening start) t m is_free r e a = at_stand l t (opening start) e tt
-start_in_lem l (inside start levels) t m is_free r e a = at_stand l t (inside start levels) e tt
-start_in_lem l (answered start n) t m is_free r e a = at_stand l t (answered start n) e a
+start_aligned l (opening start) t m is_free r e a = at_stand l t (opening start) e tt
+start_aligned l (inside start levels) t m is_free r e a = at_stand l t (inside start levels) e tt
+start_aligned l (answered start n) t m is_free r e a = at_stand l t (answered start n) e a
 
 after_aligned : (l : Log) (t : Tally) (c : Controller) → A l t → A l (after_slot t c)
 unfolding after_slot choose_t start_t
-after_aligned l t c a = start_in_lem l _ _ c.memory (free c.core.line) c.core.reception refl (choose_in_lem l t.stand t c.memory (longest_of c.core) (is_active c.core.activity.mode) c.core.reception refl a)
+after_aligned l t c a = start_aligned l _ _ c.memory (free c.core.line) c.core.reception refl (choose_aligned l t.stand t c.memory (longest_of c.core) (is_active c.core.activity.mode) c.core.reception refl a)
 
 asks_stand : (t : Tally) (address v : ℕ) → (asks t address v).stand ≡ t.stand
 unfolding asks
@@ -117,17 +116,17 @@ asks_stand t address v =
     (λ e. picked (λ (x : Tally). x.stand ≡ t.stand) (asks_rearbitration v) _ t (λ d. refl) (λ d. refl))
     (λ e. picked (λ (x : Tally). x.stand ≡ t.stand) (both (eqb address (base t.channel + 3)) (cher v)) _ t (λ d. refl) (λ d. refl))
 
-asked_in_lem : (s : Stand) (t : Tally) (address v : ℕ) → (asked_in s t address v).stand ≡ t.stand
+asked_stand : (s : Stand) (t : Tally) (address v : ℕ) → (asked_in s t address v).stand ≡ t.stand
 unfolding asked_in
-asked_in_lem away t address v = refl
-asked_in_lem between t address v = asks_stand t address v
-asked_in_lem (opening start) t address v = asks_stand t address v
-asked_in_lem (inside start levels) t address v = asks_stand t address v
-asked_in_lem (answered start n) t address v = asks_stand t address v
+asked_stand away t address v = refl
+asked_stand between t address v = asks_stand t address v
+asked_stand (opening start) t address v = asks_stand t address v
+asked_stand (inside start levels) t address v = asks_stand t address v
+asked_stand (answered start n) t address v = asks_stand t address v
 
 asked_aligned : (l : Log) (t : Tally) (address v : ℕ) → A l t → A l (asked_t t address v)
 unfolding asked_t
-asked_aligned l t address v a = at_stand l (asked_in t.stand t address v) t.stand (asked_in_lem t.stand t address v) a
+asked_aligned l t address v a = at_stand l (asked_in t.stand t address v) t.stand (asked_stand t.stand t address v) a
 
 -- ---- a sample
 

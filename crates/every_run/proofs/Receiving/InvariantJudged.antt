@@ -86,9 +86,9 @@ received_below bytes n c b =
 
 module _ {longest : ℕ} (f : Frame) (fits : Fits longest f) (request : reply_request (low f) ≡ true → length f.bytes ≡ 0) (r : Reception) (s : List ℕ) (t : InBody longest r s) where
   -- the check, and no data in a reply request
-  end_goes_lem : (x : List ℕ) → s ++ x ≡ slots f → carried f ≡ take (4 * r.nibbles) (byte_bits r.bytes) ++ bits 3 (r.bits / 2) → hear_end_of_data r longest ≡ Follows
+  end_follows : (x : List ℕ) → s ++ x ≡ slots f → carried f ≡ take (4 * r.nibbles) (byte_bits r.bytes) ++ bits 3 (r.bits / 2) → hear_end_of_data r longest ≡ Follows
   unfolding hear_end_of_data check_due
-  end_goes_lem x e c =
+  end_follows x e c =
       let n : ℕ = length f.bytes in
       let l : length (carried f) ≡ 4 * r.nibbles + 3 = ap length c ∙ rw (length-append (take (4 * r.nibbles) (byte_bits r.bytes)), nibbles_length r.bytes r.nibbles t.long (omega (arith, t.most, t.nibbles)), bits_length) refl in
       let fl = carried_length f in
@@ -113,7 +113,7 @@ module _ {longest : ℕ} (f : Frame) (fits : Fits longest f) (request : reply_re
     where
       go : (d : List ℕ) → carried f ≡ take (4 * r.nibbles) (byte_bits r.bytes) ++ d → Pair r.bits v d
           → pick (eqb v (r.bits % 2)) (pick (eqb v 0) (hear_end_of_data r longest) (Fault CV)) (pick (ltb r.nibbles (most_nibbles longest)) Follows (Fault CV)) ≡ Follows
-      go d c (ends same zero' three) = rw (eq-eqb v (r.bits % 2) same, eq-eqb v 0 zero') (end_goes_lem (v ∷ x) e (rw three at c))
+      go d c (ends same zero' three) = rw (eq-eqb v (r.bits % 2) same, eq-eqb v 0 zero') (end_follows (v ∷ x) e (rw three at c))
       go d c (closes other long) =
           let m : length (carried f) ≡ 4 * r.nibbles + length d = ap length c ∙ rw (length-append (take (4 * r.nibbles) (byte_bits r.bytes)), nibbles_length r.bytes r.nibbles t.long (omega (arith, t.most, t.nibbles))) refl in
           let fl = carried_length f in
@@ -164,9 +164,9 @@ module _ {longest : ℕ} (f : Frame) (fits : Fits longest f) (r : Reception) (va
 -- ---- the end of the frame
 
 module _ {longest : ℕ} (f : Frame) (fits : Fits longest f) (r : Reception) (s : List ℕ) (t : InEnd longest r s) where
-  pub end_of_frame_lem : (v : ℕ) (x : List ℕ) → s ++ (v ∷ x) ≡ slots f → (v ≡ 1) × (r.place.at + length x ≡ 7)
+  pub end_placed : (v : ℕ) (x : List ℕ) → s ++ (v ∷ x) ≡ slots f → (v ≡ 1) × (r.place.at + length x ≡ 7)
   unfolding closing end_of_frame
-  end_of_frame_lem v x e =
+  end_placed v x e =
       let at : ℕ = r.place.at in
       let a : List ℕ = acknowledge_slots t.acknowledged in
       let b : List ℕ = acknowledge_slots f.acknowledge in

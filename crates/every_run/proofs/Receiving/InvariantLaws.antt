@@ -27,7 +27,7 @@ use Rattle.every_run.proofs.Receiving.Invariant.{frame_held, InBody, InAcknowled
 use Rattle.every_run.proofs.Receiving.Held.{held_high, held_low, held_length, held_fits}
 use Rattle.every_run.proofs.Receiving.InvariantSteps.{fault_follows, fault_good, good_follows, step_invariant, owes_held, held_request}
 use Rattle.every_run.proofs.Receiving.InvariantFrames.{start_long, body_long, acknowledge_long, end_long, held_slots, closing_length, body_opens, acknowledge_same, end_same, body_header}
-use Rattle.every_run.proofs.Receiving.InvariantJudged.{start_goes, body_goes, acknowledge_goes, end_of_frame_lem}
+use Rattle.every_run.proofs.Receiving.InvariantJudged.{start_goes, body_goes, acknowledge_goes, end_placed}
 use Rattle.rules.specs.declared.Phase.{Phase}
 use Rattle.rules.specs.declared.Phase.TheVariants.{Quiet, Start, Body, Acknowledge, End}
 use Rattle.rules.specs.declared.Reception.{Reception}
@@ -302,7 +302,7 @@ module _ (longest : ℕ) (r : Reception) (s : List ℕ) where
       let l : r.place.at + 1 ≡ 10 = rw (length-append y, bits_length, closing_length) at (ap length k.rest) in
       absurd (omega arith)
   last_in End t f fits v e =
-      let k = end_of_frame_lem f fits r s t v [] e in
+      let k = end_placed f fits r s t v [] e in
       unfold hear_end in rw (k.0, le-ltb r.place.at 7 (omega (arith, k.1))) refl
 
   goes_in : (p : Phase) → InvariantIn longest p r s → (f : Frame) → Fits longest f → Valid r.winner f → (v x : ℕ) (rest : List ℕ) → s ++ (v ∷ x ∷ rest) ≡ slots f → hear_in p r longest v ≡ Follows
@@ -312,7 +312,7 @@ module _ (longest : ℕ) (r : Reception) (s : List ℕ) where
   goes_in Body t f fits valid v x rest e = body_goes f fits valid.request r s t v (x ∷ rest) e
   goes_in Acknowledge t f fits valid v x rest e = acknowledge_goes f fits r valid s t v (x ∷ rest) e
   goes_in End t f fits valid v x rest e =
-      let k = end_of_frame_lem f fits r s t v (x ∷ rest) e in
+      let k = end_placed f fits r s t v (x ∷ rest) e in
       unfold hear_end in rw (k.0, lt-ltb r.place.at 7 (omega (arith, k.1))) refl
 
   open_in : (p : Phase) → InvariantIn longest p r s → (f : Frame) → Fits longest f → (rest : List ℕ) → s ++ rest ≡ slots f → 10 ≤ length s → length s < 50 + 10 * length f.bytes → in_five (length s) < 4 → (v : ℕ) → hear_in p r longest v ≡ Follows

@@ -8,6 +8,7 @@ use native.Mathlib.Omega.{arith}
 use borrow.Author.Tests.{ltb-true, ltb-false, eqb-true}
 use lib.Dec.{eqb, ltb}
 use lib.ListN.{length, get_or, length-append}
+use Rattle.std.specs.Prelude.{Option, None, Some}
 use Rattle.line.specs.Bits.{pick, Below}
 use Rattle.line.specs.Frame.{start}
 use Rattle.line.specs.Layout.{in_five}
@@ -33,8 +34,6 @@ use Rattle.every_run.proofs.OwnFrames.Steady.{stopped_settled}
 use Rattle.every_run.proofs.Receiving.OwnAttempt.{Own, Placed, due_level, in_start, in_code, level_start, lost_follows, own_follows, own_small, placed_judged, placed_next}
 use Rattle.every_run.proofs.Judged as judged
 use Rattle.every_run.proofs.Judged.{Judged, went, lost, broke, done, slot_judged}
-use Rattle.rules.specs.declared.Choice.{Choice}
-use Rattle.rules.specs.declared.Choice.TheVariants.{Nothing, Lowest}
 use Rattle.rules.specs.declared.Delivery.{Delivery}
 use Rattle.rules.specs.declared.Delivery.TheVariants as delivery
 use Rattle.rules.specs.declared.ImmediateReply.{ImmediateReply}
@@ -78,7 +77,7 @@ none_takes : (high low c : ℕ) → takes [] c high low ≡ false
 unfolding takes
 none_takes high low c = rw (none_listens c low)
 
-none_lowest : (passes : ℕ → Bool) → ((c : ℕ) → passes c ≡ false) → (left c : ℕ) → lowest passes left c ≡ Nothing
+none_lowest : (passes : ℕ → Bool) → ((c : ℕ) → passes c ≡ false) → (left c : ℕ) → lowest passes left c ≡ None
 unfolding lowest
 none_lowest passes h zero c = refl
 none_lowest passes h (suc left) c = rw (h c) (none_lowest passes h left (c + 1))
@@ -311,11 +310,11 @@ module _ (longest : ℕ) (s : Service) (y : ImmediateReply) (r : Reception) (l :
 
   -- or a reply of the model's begins
   begins_reply : longest ≤ capacity → Below 256 m → (e : Effort) → Away e.progress → Following longest (then Follows) (sampled_log l v m) → Asked (then Follows)
-      → (x : Choice) → replier_for m longest (get_or (then Follows).bytes 0 0) (reply_low (then Follows)) ≡ x
+      → (x : Option ℕ) → replier_for m longest (get_or (then Follows).bytes 0 0) (reply_low (then Follows)) ≡ x
       → At longest e (reply_by m (get_or (then Follows).bytes 0 0) (reply_low (then Follows)) x) (then Follows) (sampled_log l v m)
   unfolding reply_by
-  begins_reply most b e d f a Nothing i = receiving d (unfold no_reply in refl) f
-  begins_reply most b e d f a (Lowest c) i =
+  begins_reply most b e d f a None i = receiving d (unfold no_reply in refl) f
+  begins_reply most b e d f a (Some c) i =
       let n : Reception = then Follows in
       let bytes : Below 256 n.bytes = invariant_below n (sampled_log l v m).samples f.invariant a.phase in
       let high : get_or n.bytes 0 0 < 256 = at_below bytes 0 in
@@ -355,19 +354,19 @@ module _ (longest : ℕ) (s : Service) (y : ImmediateReply) (r : Reception) (l :
       answered_effort : (settled_by false Answered s).effort ≡ advance Answered s.effort
       answered_effort = unfold settled_by ending_of stopped service_judged advance at_stage between_attempts is_between settled in refl
 
-  good_for_lem : (b : Bool) (d : Delivery) → y.going ≡ false → After (settled_by b (good_for d) s) y Good
+  good_settles : (b : Bool) (d : Delivery) → y.going ≡ false → After (settled_by b (good_for d) s) y Good
   unfolding good_for
-  good_for_lem b delivery.Nothing g = good_after b (Failed CV) y (failed_away CV s) g
-  good_for_lem b delivery.Stored g = good_after b Done y (done_away s) g
-  good_for_lem b delivery.Overflowed g = good_after b (Failed BOV) y (failed_away BOV s) g
-  good_for_lem b delivery.Spoiled g = good_after b (Failed CV) y (failed_away CV s) g
+  good_settles b delivery.Nothing g = good_after b (Failed CV) y (failed_away CV s) g
+  good_settles b delivery.Stored g = good_after b Done y (done_away s) g
+  good_settles b delivery.Overflowed g = good_after b (Failed BOV) y (failed_away BOV s) g
+  good_settles b delivery.Spoiled g = good_after b (Failed CV) y (failed_away CV s) g
 
   asked_after : (b : Bool) → y.going ≡ false → v < 2 → Following longest r l → (h : Hearing) (d : Delivery) → hear_frame r longest v ≡ h → After (settled_by b (answered_as h d) s) y h
   unfolding answered_as
   asked_after b g small f Silent d e = absurd (invariant_silent r l.samples f.invariant v e)
   asked_after b g small f Follows d e = answered_after b g (following_next r l f v small e m)
   asked_after b g small f (Fault code) d e = fault_after b (Failed code) code y (failed_away code s) g
-  asked_after b g small f Good d e = good_for_lem b d g
+  asked_after b g small f Good d e = good_settles b d g
 
   begun_judged : under_way r.place ≡ false → then Follows ≡ begun
   unfolding reception_judged reception_after followed

@@ -8,6 +8,7 @@ use native.Mathlib.Omega.{arith}
 use borrow.Author.Tests.{le-ltb, eqb-true}
 use lib.Dec.{eqb}
 use lib.ListN.{get_or}
+use Rattle.std.specs.Prelude.{Option, None, Some}
 use Rattle.line.specs.Bits.{pick, Below}
 use Rattle.line.specs.Frame.{Fits}
 use Rattle.line.proofs.Laws.{picked}
@@ -36,8 +37,6 @@ use Rattle.every_run.specs.Receiving.{Log, no_log, sampled_log, log_in, log_next
 use Rattle.every_run.proofs.Receiving.OwnAttempt.{Own, Placed, in_code}
 use Rattle.every_run.proofs.Receiving.Log.{At, Stands, apart, closing, driving, receiving, resting_going, sampled_stands, starting, Away, asking, replying, replied, resting_away, placed_later, body_is, settled_by}
 use Rattle.rules.specs.declared.Report.{Report}
-use Rattle.rules.specs.declared.Choice.{Choice}
-use Rattle.rules.specs.declared.Choice.TheVariants.{Nothing, Lowest}
 use Rattle.rules.specs.declared.Line.{Line}
 use Rattle.rules.specs.declared.Phase.TheVariants.{Body}
 use Rattle.rules.specs.declared.Reception.{Reception}
@@ -101,15 +100,15 @@ module _ (l : Log) (k : Core) (a : StandsIn l k) where
 
 -- ---- the choice
 
-chosen_away : (m : List ℕ) (x : Choice) → Away (choice_of m x).effort.progress
+chosen_away : (m : List ℕ) (x : Option ℕ) → Away (choice_of m x).effort.progress
 unfolding choice_of
-chosen_away m Nothing = resting_away
-chosen_away m (Lowest c) = record { drives = unfold chosen at_stage drives_frame is_driving in refl; answers = unfold chosen at_stage is_answered is_answering in refl }
+chosen_away m None = resting_away
+chosen_away m (Some c) = record { drives = unfold chosen at_stage drives_frame is_driving in refl; answers = unfold chosen at_stage is_answered is_answering in refl }
 
-chosen_going : (m : List ℕ) (x : Choice) → stopped (choice_of m x) ≡ Going
+chosen_going : (m : List ℕ) (x : Option ℕ) → stopped (choice_of m x) ≡ Going
 unfolding choice_of
-chosen_going m Nothing = resting_going
-chosen_going m (Lowest c) = unfold chosen resting at_stage stopped between_attempts is_between exhausted no_counts in rw (le-ltb (retry_setting (get_or m transmit_control 0)) 0 (omega arith))
+chosen_going m None = resting_going
+chosen_going m (Some c) = unfold chosen resting at_stage stopped between_attempts is_between exhausted no_counts in rw (le-ltb (retry_setting (get_or m transmit_control 0)) 0 (omega arith))
 
 free_to_choose : (a b u : Bool) → both a (both (not b) (not u)) ≡ true → u ≡ false
 free_to_choose true true u e = absurd (false≢true e)
@@ -337,19 +336,19 @@ module _ (c : Controller) (l : Log) (e : Event) where
 
 -- ---- the frame of the service
 
-own_in_lem : (s : Stand) (t : Tally) → (is_away s ≡ false → Fits capacity t.frame × (t.frame.acknowledge ≡ false)) → drives_frame (service_in s t).effort.progress ≡ true
+own_driven : (s : Stand) (t : Tally) → (is_away s ≡ false → Fits capacity t.frame × (t.frame.acknowledge ≡ false)) → drives_frame (service_in s t).effort.progress ≡ true
     → Own capacity (service_in s t).effort.frame
 unfolding service_in is_away
-own_in_lem away t g d = absurd (false≢true (sym resting_away.drives ∙ d))
-own_in_lem between t g d = absurd (false≢true (unfold made at_stage drives_frame is_driving in d))
-own_in_lem (opening start) t g d = let f = g refl in record { most = omega arith; frame = t.frame; fits = f.0; silent = f.1; same = unfold made in refl }
-own_in_lem (inside start levels) t g d = let f = g refl in record { most = omega arith; frame = t.frame; fits = f.0; silent = f.1; same = unfold made in refl }
-own_in_lem (answered start n) t g d = absurd (false≢true (unfold made at_stage drives_frame is_driving in d))
+own_driven away t g d = absurd (false≢true (sym resting_away.drives ∙ d))
+own_driven between t g d = absurd (false≢true (unfold made at_stage drives_frame is_driving in d))
+own_driven (opening start) t g d = let f = g refl in record { most = omega arith; frame = t.frame; fits = f.0; silent = f.1; same = unfold made in refl }
+own_driven (inside start levels) t g d = let f = g refl in record { most = omega arith; frame = t.frame; fits = f.0; silent = f.1; same = unfold made in refl }
+own_driven (answered start n) t g d = absurd (false≢true (unfold made at_stage drives_frame is_driving in d))
 
 own_of : (c : Controller) (t : Tally) → Joined c t → drives_frame c.core.service.effort.progress ≡ true → Own (longest_of c.core) c.core.service.effort.frame
 own_of c t j d =
     let s : c.core.service ≡ service_in t.stand t = unfold service_of in j.service in
-    subst (λ (x : Service). Own capacity x.effort.frame) (sym s) (own_in_lem t.stand t j.good.fits (subst (λ (x : Service). drives_frame x.effort.progress ≡ true) s d))
+    subst (λ (x : Service). Own capacity x.effort.frame) (sym s) (own_driven t.stand t j.good.fits (subst (λ (x : Service). drives_frame x.effort.progress ≡ true) s d))
 
 -- ---- a slot
 

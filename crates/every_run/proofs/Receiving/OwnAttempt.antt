@@ -47,9 +47,9 @@ pub due_level : (x : Coded) (k : ℕ) → k < 30 + 10 * x.n → due x k ≡ leve
 unfolding due
 due_level x k h = rw (ne_eqb k (51 + 10 * x.n) (λ e. omega arith))
 
-in_code_lem : (f : Frame) (k : ℕ) → 10 ≤ k → k < 30 + 10 * length f.bytes → level_of f k ≡ coded_level f k
+level_inside : (f : Frame) (k : ℕ) → 10 ≤ k → k < 30 + 10 * length f.bytes → level_of f k ≡ coded_level f k
 unfolding level_of part_of level_in
-in_code_lem f k a b =
+level_inside f k a b =
     picked P (ltb k 10) part.Start _ (λ e. absurd (omega (arith, ltb-true))) λ e₁.
     picked P (ltb k 25) part.Identifier _ (λ e. refl) λ e₂.
     picked P (ltb k 30) part.Command _ (λ e. refl) λ e₃.
@@ -76,7 +76,7 @@ own_level : {longest : ℕ} (x : Coded) (o : Own longest x) (k : ℕ) → 10 ≤
 own_level x o k a b =
     let f : Frame = o.frame in
     let n : x.n ≡ length f.bytes = ap (λ (y : Coded). y.n) o.same ∙ (unfold coded in refl) in
-    ap (λ (y : Coded). level_at y k) o.same ∙ level_coded f (wider o.most o.fits) o.silent k ∙ sym (level_at_lem f k) ∙ in_code_lem f k a (omega arith)
+    ap (λ (y : Coded). level_at y k) o.same ∙ level_coded f (wider o.most o.fits) o.silent k ∙ sym (level_at_lem f k) ∙ level_inside f k a (omega arith)
 
 -- a second half is unlike the first
 unlike : {longest : ℕ} (x : Coded) → Own longest x → (q k : ℕ) → k ≡ 10 + 5 * q + 4 → k < 30 + 10 * x.n → level_at x k ≡ level_at x (k - 1) → ⊥
@@ -90,9 +90,9 @@ pub data Placed (x : Coded) (k : ℕ) (r : Reception) : Type 0 where
   in_code : r.place.phase ≡ Body → k ≡ 10 + 5 * r.nibbles + r.place.at → r.place.at ≤ 4 → (r.place.at ≡ 4 → r.bits % 2 ≡ level_at x (k - 1)) → Placed x k r
 
 module _ (longest : ℕ) (x : Coded) (k : ℕ) (r : Reception) (v : ℕ) where
-  hear_start_lem : r.place.phase ≡ Start → r.place.at ≡ k → k ≤ 9 → v ≡ level_at x k → hear_frame r longest v ≡ Follows
+  start_follows : r.place.phase ≡ Start → r.place.at ≡ k → k ≤ 9 → v ≡ level_at x k → hear_frame r longest v ≡ Follows
   unfolding hear_frame hear_in hear_start
-  hear_start_lem p a h e = rw (p, a, eq-eqb v (get_or start k 1) (e ∙ level_start x k (omega arith)))
+  start_follows p a h e = rw (p, a, eq-eqb v (get_or start k 1) (e ∙ level_start x k (omega arith)))
 
   hear_open : r.place.phase ≡ Body → r.place.at < 4 → hear_frame r longest v ≡ Follows
   unfolding hear_frame hear_in hear_body
@@ -107,7 +107,7 @@ module _ (longest : ℕ) (x : Coded) (k : ℕ) (r : Reception) (v : ℕ) where
 
   -- a slot of the own frame that is sampled as driven follows
   pub own_follows : Own longest x → k < 30 + 10 * x.n → x.n ≤ longest → v ≡ level_at x k → Placed x k r → hear_frame r longest v ≡ Follows
-  own_follows o h n e (in_start p a i z) = hear_start_lem p a i e
+  own_follows o h n e (in_start p a i z) = start_follows p a i e
   own_follows o h n e (in_code p q i b) = go (ltb r.place.at 4) refl
     where
       go : (t : Bool) → ltb r.place.at 4 ≡ t → hear_frame r longest v ≡ Follows

@@ -11,6 +11,7 @@ use borrow.Author.Tests.{ltb-true, ltb-false, eqb-true}
 use lib.Dec.{eqb, ltb}
 use lib.ListN.{length, get_or, take, drop, length-append, length-drop, take-append-drop}
 use lib.Seq.{drop-cons, take-suc, get_or-drop}
+use Rattle.std.specs.Prelude.{Option, None, Some}
 use Rattle.line.specs.Bits.{pick, Below}
 use Rattle.line.specs.Frame.{Frame, Fits, slots, size}
 use Rattle.line.proofs.Laws.{slots_length, picked}
@@ -22,8 +23,6 @@ use Rattle.rules.specs.Definitions.Reception.{under_way, start_ended}
 use Rattle.every_run.proofs.Ranges.Bytes.{fits_ready, setting_small}
 use Rattle.rules.proofs.Matching.Lowest.{found}
 use Rattle.rules.proofs.Logic.{both_true}
-use Rattle.rules.specs.declared.Choice.{Choice}
-use Rattle.rules.specs.declared.Choice.TheVariants.{Nothing, Lowest}
 use Rattle.rules.specs.declared.Reception.{Reception}
 use Rattle.every_run.specs.Tally as tally
 use Rattle.every_run.specs.Tally.{Stand, away, between, opening, inside, answered, Tally, none, Verdict, goes, contended, failed, sent, answers, Answering, comes, wasted, request_t, replied_as, due_level, verdict, spent_t, judged_as, counted_in, counted_t, given_up, ended_in, ended_t, chosen_t, choice_t, choose_in, choose_t, start_in, start_t, is_away, asks, asked_in, asked_t, open_half_t, arbitrated_t}
@@ -314,12 +313,12 @@ Coming longest (opening start) y = Unit {0}
 Coming longest (inside start levels) y = Unit {0}
 Coming longest (answered start n) y = y ≡ comes → start + n + 1 < size longest
 
-counted_in_lem : {longest : ℕ} (s : Stand) (t : Tally) → t.stand ≡ s → Good longest t → (d v : ℕ) (y : Answering) → Coming longest s y → (attempting s ≡ true → d ≡ level_in s t.frame)
+counted_bounded : {longest : ℕ} (s : Stand) (t : Tally) → t.stand ≡ s → Good longest t → (d v : ℕ) (y : Answering) → Coming longest s y → (attempting s ≡ true → d ≡ level_in s t.frame)
     → Good longest (ended_t (counted_in s t d v y)) × Bounded longest (counted_in s t d v y)
 unfolding counted_in level_in attempting
-counted_in_lem away t e g d v y c q = (ended_good t g, bounded_now t g)
-counted_in_lem between t e g d v y c q = (ended_good t g, bounded_now t g)
-counted_in_lem {longest} (opening start) t e g d v y c q =
+counted_bounded away t e g d v y c q = (ended_good t g, bounded_now t g)
+counted_bounded between t e g d v y c q = (ended_good t g, bounded_now t g)
+counted_bounded {longest} (opening start) t e g d v y c q =
     let f : Frame = t.frame in
     let serving : is_away t.stand ≡ false = unfold is_away in rw e in
     let o : Origin start = subst (λ (s : Stand). Standing longest s f) e g.stands in
@@ -332,7 +331,7 @@ counted_in_lem {longest} (opening start) t e g d v y c q =
       judged_good t g serving start 0 (d ∷ []) o p b refl w z,
       judged_bounded t start 0 (d ∷ []) g.errors p (omega arith) (verdict f start d v),
     )
-counted_in_lem {longest} (inside start levels) t e g d v y c q =
+counted_bounded {longest} (inside start levels) t e g d v y c q =
     let f : Frame = t.frame in
     let serving : is_away t.stand ≡ false = unfold is_away in rw e in
     let x : Standing longest (inside start levels) f = subst (λ (s : Stand). Standing longest s f) e g.stands in
@@ -343,13 +342,13 @@ counted_in_lem {longest} (inside start levels) t e g d v y c q =
       judged_good t g serving start (length levels) (levels ++ (d ∷ [])) x.0 p x.1 n w (verdict_of f (start + length levels) d v),
       judged_bounded t start (length levels) (levels ++ (d ∷ [])) g.errors p (omega (arith, x.1)) (verdict f (start + length levels) d v),
     )
-counted_in_lem {longest} (answered start n) t e g d v y c q =
+counted_bounded {longest} (answered start n) t e g d v y c q =
     (replied_good t g start n e y c, replied_bounded t start n [] g.errors (so_far t g start n e) (replied_room t g start n e) y n)
 
 pub counted_good : {longest : ℕ} (t : Tally) → Good longest t → (d v : ℕ) (y : Answering) → Coming longest t.stand y → (attempting t.stand ≡ true → d ≡ level_in t.stand t.frame)
     → Good longest (ended_t (counted_t t d v y)) × Bounded longest (counted_t t d v y)
 unfolding counted_t
-counted_good t g d v y c q = counted_in_lem t.stand t refl g d v y c q
+counted_good t g d v y c q = counted_bounded t.stand t refl g d v y c q
 
 -- ---- choice, start, and what a host write asks
 
@@ -358,10 +357,10 @@ ready_good m longest c b r =
     unfold chosen_t none taken in
     record { errors = omega arith; setting = setting_small m b; spent = omega arith; stands = tt; fits = λ d. (fits_ready m longest c b r, unfold sent_frame frame_with in refl) }
 
-chosen_good : (m : List ℕ) (longest : ℕ) → Below 256 m → (x : Choice) → lowest_ready m longest ≡ x → Good longest (choice_t m x)
+chosen_good : (m : List ℕ) (longest : ℕ) → Below 256 m → (x : Option ℕ) → lowest_ready m longest ≡ x → Good longest (choice_t m x)
 unfolding choice_t lowest_ready
-chosen_good m longest b Nothing e = good_none
-chosen_good m longest b (Lowest c) e = ready_good m longest c b (found (ready m longest) channels 0 c e).0
+chosen_good m longest b None e = good_none
+chosen_good m longest b (Some c) e = ready_good m longest c b (found (ready m longest) channels 0 c e).0
 
 choose_good_in : (s : Stand) (t : Tally) (m : List ℕ) (longest : ℕ) (a : Bool) (r : Reception) → Below 256 m → Good longest t → Good longest (choose_in s t m longest a r)
 unfolding choose_in

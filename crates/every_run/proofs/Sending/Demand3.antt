@@ -76,12 +76,12 @@ unfolding drives drives_as
 sends_level k t stage at b e =
     ap (λ (x : Role). drives_as x k) (sends_role k t stage at b e) ∙ ap (λ (s : Service). level_at s.effort.frame s.effort.progress.at) e ∙ unfold made at_stage in refl
 
-drives_as_lem : (s : Stand) (t : Tally) (k : Core) → k.service ≡ service_in s t → attempting s ≡ true → drives k ≡ driven_in s t
-drives_as_lem away t k e a = absurd (false≢true (unfold attempting in a))
-drives_as_lem between t k e a = absurd (false≢true (unfold attempting in a))
-drives_as_lem (opening start) t k e a = unfold driven_in in sends_level k t Opening start (unfold is_driving in refl) (unfold service_in in e)
-drives_as_lem (inside start levels) t k e a = unfold driven_in in sends_level k t Sending (start + length levels) (unfold is_driving in refl) (unfold service_in in e)
-drives_as_lem (answered start n) t k e a = absurd (false≢true (unfold attempting in a))
+drives_is : (s : Stand) (t : Tally) (k : Core) → k.service ≡ service_in s t → attempting s ≡ true → drives k ≡ driven_in s t
+drives_is away t k e a = absurd (false≢true (unfold attempting in a))
+drives_is between t k e a = absurd (false≢true (unfold attempting in a))
+drives_is (opening start) t k e a = unfold driven_in in sends_level k t Opening start (unfold is_driving in refl) (unfold service_in in e)
+drives_is (inside start levels) t k e a = unfold driven_in in sends_level k t Sending (start + length levels) (unfold is_driving in refl) (unfold service_in in e)
+drives_is (answered start n) t k e a = absurd (false≢true (unfold attempting in a))
 
 frame_level : (s : Stand) (t : Tally) → Fits capacity t.frame × (t.frame.acknowledge ≡ false) → driven_in s t ≡ level_in s t.frame
 unfolding driven_in level_in
@@ -102,7 +102,7 @@ attempt_serves (answered start n) a = refl
 
 module _ (c : Controller) (t : Tally) (j : Joined c t) where
   pub driven_is : attempting t.stand ≡ true → drives c.core ≡ driven_in t.stand t
-  driven_is a = drives_as_lem t.stand t c.core (unfold service_of in j.service) a
+  driven_is a = drives_is t.stand t c.core (unfold service_of in j.service) a
 
   pub level_is : attempting t.stand ≡ true → drives c.core ≡ level_in t.stand t.frame
   level_is a = driven_is a ∙ frame_level t.stand t (j.good.fits (attempt_serves t.stand a))
@@ -117,19 +117,19 @@ good_replies delivery.Overflowed = off BOV
 good_replies delivery.Spoiled = off CV
 
 -- the delivery as the claims say it
-pub heard_delivery_lem : (h : Hearing) (r : Reception) → delivery_of h r ≡ heard_delivery h r
+pub delivery_heard : (h : Hearing) (r : Reception) → delivery_of h r ≡ heard_delivery h r
 unfolding delivery_of delivery_to heard_delivery delivered fits fitting
-heard_delivery_lem Silent r = pick_same r.winner.matched delivery.Nothing
-heard_delivery_lem Follows r = pick_same r.winner.matched delivery.Nothing
-heard_delivery_lem (Fault code) r = refl
-heard_delivery_lem hearing.Good r = refl
+delivery_heard Silent r = pick_same r.winner.matched delivery.Nothing
+delivery_heard Follows r = pick_same r.winner.matched delivery.Nothing
+delivery_heard (Fault code) r = refl
+delivery_heard hearing.Good r = refl
 
 answer_replies : (h : Hearing) (r : Reception) → Replies (answered_as h (delivery_of h r)) (answer_in h r)
 unfolding answered_as answer_in
 answer_replies Silent r = on
 answer_replies Follows r = on
 answer_replies (Fault code) r = off code
-answer_replies hearing.Good r = rw (heard_delivery_lem hearing.Good r) (good_replies (heard_delivery hearing.Good r))
+answer_replies hearing.Good r = rw (delivery_heard hearing.Good r) (good_replies (heard_delivery hearing.Good r))
 
 -- outside an attempt nothing is judged
 apart_verdict : (k : Core) (v : ℕ) → drives_frame k.service.effort.progress ≡ false → is_answered k.service.effort.progress ≡ false → verdict k v ≡ Unjudged
@@ -211,7 +211,7 @@ module _ (k : Core) (t : Tally) (w : Verdict) (v : ℕ) (e : k.service ≡ made 
       received =
           let x : Hearing = heard_as Receiver k w v in
           unfold delivers in
-          (ap (λ (s : Service). fulfils (delivery_of x k.reception) k.reception s) e ∙ ap (λ (d : Delivery). fulfils d k.reception (made t Waiting 0)) (heard_delivery_lem x k.reception)
+          (ap (λ (s : Service). fulfils (delivery_of x k.reception) k.reception s) e ∙ ap (λ (d : Delivery). fulfils d k.reception (made t Waiting 0)) (delivery_heard x k.reception)
           ∙ stored_fulfils (heard_delivery x k.reception) k.reception t)
   waiting_fulfils (rests d a y u) = unfold delivers fulfils heard_as in (rw (quiet_nothing k.line v k.reception) (none (request_t t.frame) k.reply.going))
     where

@@ -5,6 +5,7 @@ use mathlib.Core.List.{List}
 use mathlib.Core.Path.{◌≡◌, refl, ap, ◌∙◌, sym}
 use lib.Dec.{eqb}
 use lib.ListN.{get_or}
+use Rattle.std.specs.Prelude.{Option, None, Some}
 use Rattle.line.specs.Bits.{pick}
 use Rattle.rules.proofs.Logic.{unless_false, left}
 use Rattle.rules.specs.Definitions.Setters.{with_activity, with_report, with_line, with_service}
@@ -21,8 +22,6 @@ use Rattle.rules.specs.Definitions.Host.{mode_commanded, flags_cleared, core_wri
 use Rattle.every_run.specs.Tally.{Stand, away, between, opening, inside, answered, Tally, choice_t, choose_in, choose_t, start_t}
 use Rattle.every_run.proofs.Sending.Join.{made, service_in, service_of, choose_is, started_is}
 use Rattle.rules.specs.declared.Report.{Report}
-use Rattle.rules.specs.declared.Choice.{Choice}
-use Rattle.rules.specs.declared.Choice.TheVariants.{Nothing, Lowest}
 use Rattle.rules.specs.declared.Reception.{Reception}
 use Rattle.rules.specs.declared.Hearing.{Hearing}
 use Rattle.rules.specs.declared.Hearing.TheVariants.{Silent, Follows, Fault, Good}
@@ -82,10 +81,10 @@ module _ (m : List ℕ) (k : Core) where
   choice_error : (choice_made m k).report.error ≡ k.report.error
   choice_error = choice_leaves (λ x. x.report.error) (unfold chosen_core report_sending in refl)
 
-  choice_of_lem : (x : Choice) → k.service ≡ resting
+  choice_is : (x : Option ℕ) → k.service ≡ resting
       → (pick (serving (choice_of m x)) (with_service (with_report k (report_sending k.report (choice_of m x))) (choice_of m x)) k).service ≡ service_of (choice_t m x)
-  choice_of_lem Nothing e = unfold choice_of choice_t serving resting in_service is_serving at_stage in (e ∙ unfold choice_of in choose_is m Nothing)
-  choice_of_lem (Lowest c) e = unfold choice_of chosen serving in_service is_serving at_stage in choose_is m (Lowest c)
+  choice_is None e = unfold choice_of choice_t serving resting in_service is_serving at_stage in (e ∙ unfold choice_of in choose_is m None)
+  choice_is (Some c) e = unfold choice_of chosen serving in_service is_serving at_stage in choose_is m (Some c)
 
   pub chooses_as : (b : Bool) → serving k.service ≡ b → chooses k ≡ both (is_active k.activity.mode) (both (not b) (not (under_way k.reception.place)))
   unfolding chooses
@@ -105,7 +104,7 @@ module _ (m : List ℕ) (k : Core) where
           ≡ service_of (pick a (pick u t (choice_t m (lowest_ready m (longest_of k)))) t)
       go false u = same
       go true true = same
-      go true false = choice_of_lem (lowest_ready m (longest_of k)) s
+      go true false = choice_is (lowest_ready m (longest_of k)) s
 
   -- in a service nothing is chosen
   busy_service : serving k.service ≡ true → (choice_made m k).service ≡ k.service
@@ -244,18 +243,18 @@ module _ (k : Core) (v : ℕ) where
   unfolding mode_commanded
   mode_leaves f p q = left f (asks_idle v) (idle_asked k) (pick (asks_activation v) (activated k) k) (f k) p (left f (asks_activation v) (activated k) k (f k) q refl)
 
-  idle_asked_lem : {B : Type 0} (f : Core → B) → f (with_activity k (in_mode Active true)) ≡ f k → f (idle_asked k) ≡ f k
+  idle_asked_keeps : {B : Type 0} (f : Core → B) → f (with_activity k (in_mode Active true)) ≡ f k → f (idle_asked k) ≡ f k
   unfolding idle_asked
-  idle_asked_lem f p = left f (is_active k.activity.mode) (with_activity k (in_mode Active true)) k (f k) p refl
+  idle_asked_keeps f p = left f (is_active k.activity.mode) (with_activity k (in_mode Active true)) k (f k) p refl
 
   mode_service : (mode_commanded k v).service ≡ k.service
-  mode_service = mode_leaves (λ x. x.service) (idle_asked_lem (λ x. x.service) refl) activated_service
+  mode_service = mode_leaves (λ x. x.service) (idle_asked_keeps (λ x. x.service) refl) activated_service
     where
       activated_service : (activated k).service ≡ k.service
       activated_service = unfold activated in left (λ x. x.service) (is_active k.activity.mode) (with_activity k (in_mode Active false)) (with_line (with_activity k (in_mode Active false)) unsettled) k.service refl refl
 
   pub mode_report : (mode_commanded k v).report ≡ k.report
-  mode_report = mode_leaves (λ x. x.report) (idle_asked_lem (λ x. x.report) refl) activated_report
+  mode_report = mode_leaves (λ x. x.report) (idle_asked_keeps (λ x. x.report) refl) activated_report
     where
       activated_report : (activated k).report ≡ k.report
       activated_report = unfold activated in left (λ x. x.report) (is_active k.activity.mode) (with_activity k (in_mode Active false)) (with_line (with_activity k (in_mode Active false)) unsettled) k.report refl refl

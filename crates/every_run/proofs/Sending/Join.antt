@@ -7,6 +7,7 @@ use native.Mathlib.Omega.{arith}
 use borrow.Author.Tests.{ltb-true, ltb-false}
 use lib.Dec.{eqb, ltb}
 use lib.ListN.{length, get_or, length-append}
+use Rattle.std.specs.Prelude.{Option, None, Some}
 use Rattle.line.specs.Bits.{pick}
 use Rattle.line.specs.Frame.{Frame, size}
 use Rattle.line.specs.Layout.{part_of, half_of}
@@ -26,8 +27,6 @@ use Rattle.every_run.proofs.Judged as judged
 use Rattle.every_run.proofs.Judged.{Judged, went, lost, broke, done, slot_judged}
 use Rattle.every_run.specs.Tally as tally
 use Rattle.every_run.specs.Tally.{Stand, away, between, opening, inside, answered, Tally, none, goes, contended, failed, sent, answers, Answering, comes, taken, wasted, request_t, replied_as, asks_acknowledge, due_level, verdict, spent_t, judged_as, counted_in, counted_t, given_up, ended_in, ended_t, chosen_t, choice_t, start_in, start_t, asks, asked_in, asked_t, open_half_t, arbitrated_t}
-use Rattle.rules.specs.declared.Choice.{Choice}
-use Rattle.rules.specs.declared.Choice.TheVariants.{Nothing, Lowest}
 use Rattle.rules.specs.declared.Line.{Line}
 use Rattle.rules.specs.declared.Reception.{Reception}
 use Rattle.rules.specs.declared.Timeslots.{Timeslots}
@@ -140,17 +139,17 @@ kind_same f k v =
 
 -- ---- counts
 
-more_slots_lem : (x : ℕ) → more_slots (record { 0 = min x largest }) ≡ record { 0 = min (x + 1) largest }
+slot_counted : (x : ℕ) → more_slots (record { 0 = min x largest }) ≡ record { 0 = min (x + 1) largest }
 unfolding more_slots
-more_slots_lem x = go (ltb (min x largest) largest) refl
+slot_counted x = go (ltb (min x largest) largest) refl
   where
     go : (b : Bool) → ltb (min x largest) largest ≡ b → pick {A = Timeslots} b (record { 0 = min x largest + 1 }) (record { 0 = min x largest }) ≡ record { 0 = min (x + 1) largest }
     go true e = let q : min x largest + 1 ≡ min (x + 1) largest = omega (arith, ltb-true) in λ i. record { 0 = q i }
     go false e = let q : min x largest ≡ min (x + 1) largest = omega (arith, ltb-false) in λ i. record { 0 = q i }
 
-more_attempts_lem : (x : ℕ) → more_attempts (record { 0 = min x largest }) ≡ record { 0 = min (x + 1) largest }
+attempt_counted : (x : ℕ) → more_attempts (record { 0 = min x largest }) ≡ record { 0 = min (x + 1) largest }
 unfolding more_attempts
-more_attempts_lem x = go (ltb (min x largest) largest) refl
+attempt_counted x = go (ltb (min x largest) largest) refl
   where
     go : (b : Bool) → ltb (min x largest) largest ≡ b → pick {A = Attempts} b (record { 0 = min x largest + 1 }) (record { 0 = min x largest }) ≡ record { 0 = min (x + 1) largest }
     go true e = let q : min x largest + 1 ≡ min (x + 1) largest = omega (arith, ltb-true) in λ i. record { 0 = q i }
@@ -159,15 +158,15 @@ more_attempts_lem x = go (ltb (min x largest) largest) refl
 module _ (t : Tally) (s : Stand) where
   pub spent_slot : slot_spent (counters_of t) ≡ counters_of (spent_t t s)
   unfolding slot_spent counters_of spent_t
-  spent_slot = rw (more_slots_lem t.slots)
+  spent_slot = rw (slot_counted t.slots)
 
   spent_lost : lost_spent (counters_of t) ≡ counters_of (tally.with_lost (spent_t t s) (t.lost + 1))
   unfolding lost_spent slot_spent counters_of spent_t
-  spent_lost = rw (more_slots_lem t.slots, more_attempts_lem t.lost)
+  spent_lost = rw (slot_counted t.slots, attempt_counted t.lost)
 
   spent_error : error_spent (counters_of t) ≡ counters_of (tally.with_errors (spent_t t s) (t.errors + 1))
   unfolding error_spent slot_spent counters_of spent_t
-  spent_error = rw (more_slots_lem t.slots, more_attempts_lem t.errors)
+  spent_error = rw (slot_counted t.slots, attempt_counted t.errors)
 
 -- ---- the attempt goes on, is lost or fails
 
@@ -335,10 +334,10 @@ pub chosen_is : (m : List ℕ) (c : ℕ) → chosen m c ≡ service_of (chosen_t
 unfolding chosen resting chosen_t none service_of service_in made counters_of no_counts at_stage
 chosen_is m c = refl
 
-pub choose_is : (m : List ℕ) (x : Choice) → choice_of m x ≡ service_of (choice_t m x)
+pub choose_is : (m : List ℕ) (x : Option ℕ) → choice_of m x ≡ service_of (choice_t m x)
 unfolding choice_of choice_t
-choose_is m Nothing = unfold service_of service_in none in refl
-choose_is m (Lowest c) = chosen_is m c
+choose_is m None = unfold service_of service_in none in refl
+choose_is m (Some c) = chosen_is m c
 
 opened_is : (t : Tally) (k : ℕ) → opened (made t Waiting 0) k ≡ service_of (tally.with_stand t (opening k))
 unfolding opened made service_of service_in counters_of
@@ -412,14 +411,14 @@ asked_away address v = go (eqb address command) (asks_rearbitration v)
     go true false = refl
     go false y = refl
 
-asked_in_lem : (s : Stand) (t : Tally) → t.stand ≡ s → (address v : ℕ) → service_asked (service_in s t) address v ≡ service_of (asked_in s t address v)
+asked_service : (s : Stand) (t : Tally) → t.stand ≡ s → (address v : ℕ) → service_asked (service_in s t) address v ≡ service_of (asked_in s t address v)
 unfolding asked_in service_of
-asked_in_lem away t e address v = unfold service_in in (asked_away address v ∙ ap (λ (s : Stand). service_in s t) (sym e))
-asked_in_lem between t e address v = unfold service_in in asked_made t Waiting 0 (unfold is_serving in refl) (λ a r. unfold service_of service_in in rw e) address v
-asked_in_lem (opening start) t e address v = unfold service_in in asked_made t Opening start (unfold is_serving in refl) (λ a r. unfold service_of service_in in rw e) address v
-asked_in_lem (inside start levels) t e address v = unfold service_in in asked_made t Sending (start + length levels) (unfold is_serving in refl) (λ a r. unfold service_of service_in in rw e) address v
-asked_in_lem (answered start n) t e address v = unfold service_in in asked_made t Receiving 0 (unfold is_serving in refl) (λ a r. unfold service_of service_in in rw e) address v
+asked_service away t e address v = unfold service_in in (asked_away address v ∙ ap (λ (s : Stand). service_in s t) (sym e))
+asked_service between t e address v = unfold service_in in asked_made t Waiting 0 (unfold is_serving in refl) (λ a r. unfold service_of service_in in rw e) address v
+asked_service (opening start) t e address v = unfold service_in in asked_made t Opening start (unfold is_serving in refl) (λ a r. unfold service_of service_in in rw e) address v
+asked_service (inside start levels) t e address v = unfold service_in in asked_made t Sending (start + length levels) (unfold is_serving in refl) (λ a r. unfold service_of service_in in rw e) address v
+asked_service (answered start n) t e address v = unfold service_in in asked_made t Receiving 0 (unfold is_serving in refl) (λ a r. unfold service_of service_in in rw e) address v
 
 pub asked_is : (t : Tally) (address v : ℕ) → service_asked (service_of t) address v ≡ service_of (asked_t t address v)
 unfolding service_of asked_t
-asked_is t address v = asked_in_lem t.stand t refl address v
+asked_is t address v = asked_service t.stand t refl address v

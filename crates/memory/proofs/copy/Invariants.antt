@@ -1,4 +1,4 @@
-use Prim.Native.Nat.{◌≤◌, ◌-◌, ◌+◌}
+use Prim.Native.Nat.{◌-◌, ◌+◌}
 use mathlib.Core.Path.{◌≡◌}
 use lib.Seq.{sets}
 use Rattle.rules.specs.Definitions.Mailbox.{mailbox_bytes}
@@ -6,8 +6,4 @@ use Rattle.memory.proofs.copy.Given as goal
 
 abbrev pub invariant-loop-k : goal.invariant-loop-k
 invariant-loop-k l =
-    (l.k ≤ l.n) × (sets l.initial.bytes 2 (mailbox_bytes l.m l.pointer 1 l.n) ≡ sets l.bytes (l.k + 2) (mailbox_bytes l.m l.pointer (l.k + 1) (l.n - l.k)))
-
-abbrev pub decreases-loop-k : goal.decreases-loop-k
-decreases-loop-k l =
-    l.n - l.k
+    sets l.initial.bytes 2 (mailbox_bytes l.m l.pointer 1 l.n) ≡ sets l.bytes (l.k + 2) (mailbox_bytes l.m l.pointer (l.k + 1) (l.n - l.k))

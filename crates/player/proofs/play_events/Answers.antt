@@ -1,16 +1,13 @@
-use mathlib.Core.Path.{sym, ◌∙◌}
-use native.Mathlib.Omega.{arith}
-use Rattle.rules.specs.Definitions.Answers.{controller}
-use Rattle.row.specs.Row.{core_of}
-use Rattle.bench_record.proofs.Laws.{stepped}
+use Rattle.std.proofs.Common.{◌≡◌, ◌∷◌, Ok, ◌∙◌, arith}
+use Rattle.reading_place.specs.Items.{rest_of}
+use Rattle.player.proofs.Rows.{one_more}
+use Rattle.player.proofs.Reached.{reached_next}
 use Rattle.player.proofs.play_events.Goals as goal
 
-pub loop-index-preserved : goal.loop-index-preserved
-loop-index-preserved c =
-    let x = c.args in
-    let b = c.play_event-place.ensures.bound in (
-      omega arith,
-      omega arith,
-      omega arith,
-      stepped (controller c.loop-index.m (core_of c.loop-index.row)) _ x.s.now x.count c.loop-index.index c.loop-index.from c.loop-index.invariant.3 c.loop-index-test.true (sym c.event_from.ensures ∙ c.in-Next.is) c.play_event-place.ensures.state c.play_event-place.ensures.laid,
-    )
+pub loop-item-preserved : goal.loop-item-preserved
+loop-item-preserved c =
+    let i = c.loop-item.invariant in
+    let e : rest_of c.loop-item.item-iterator ≡ Ok c.in-Ok.event ∷ rest_of c.next.new.self = c.in-Some.ensures.steps ∙ rw c.in-Ok.is in
+    let room = rw e at i.2 in
+    let bound = c.play_event-place.ensures.bound in
+    (tt, tt, omega arith, omega arith, reached_next c.loop-item.c _ _ i.4 c.play_event-place.ensures.state, one_more _ _ _ _ c.in-Ok.event _ (rw e at i.5) c.play_event-place.ensures.state c.play_event-place.ensures.laid)

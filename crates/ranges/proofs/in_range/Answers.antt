@@ -7,4 +7,4 @@ use Rattle.ranges.proofs.in_range.Goals as goal
 pub returns : goal.returns
 unfolding in_range ranges size
 returns c =
-    rw c.divider-divider.ensures (joined_within true (ranges _ c.args.k))
+    rw c.divider-divider.ensures (joined_within true (ranges _ c.args.k.now))

@@ -4,15 +4,13 @@
 --   matches, listens, takes == whether a channel takes a frame        lowest_listening, winner_for == who takes it
 --   asks_to_send, ready, lowest_ready == who sends        settles_reply, replier_for == who replies
 -- `low` is byte 1 of a frame or of a channel: identifier or tag bits 3 to 0, EXT, RAK, R/W, RTR.
-use Rattle.std.specs.Prelude.{ℕ, zero, suc, ◌+◌, ◌*◌, ◌/◌, ◌%◌, Bool, true, false, not, List, eqb, leb, get_or}
+use Rattle.std.specs.Prelude.{ℕ, zero, suc, ◌+◌, ◌*◌, ◌/◌, ◌%◌, Bool, true, false, not, List, eqb, leb, get_or, Option, None, Some}
 use Rattle.std.specs.Int.Bits.{bit_and, bit_xor}
 use Rattle.line.specs.Bits.{pick}
 use Rattle.rules.specs.Definitions.Registers.{both, either, has_bit}
 use Rattle.rules.specs.declared.Channel.{Channel}
 use Rattle.rules.specs.declared.Buffer.{Buffer}
 use Rattle.rules.specs.declared.Winner.{Winner}
-use Rattle.rules.specs.declared.Choice.{Choice}
-use Rattle.rules.specs.declared.Choice.TheVariants.{Nothing, Lowest}
 
 -- ---- the bits of byte 1: EXT, RAK, R/W, RTR in bits 3 to 0
 
@@ -158,16 +156,16 @@ winner_of m c =
     }
 
 -- "Lowest channel number wins": the first of `left` channels from c on that passes
-unfoldable pub lowest : (ℕ → Bool) → ℕ → ℕ → Choice
-lowest passes zero c = Nothing
-lowest passes (suc left) c = pick (passes c) (Lowest c) (lowest passes left (c + 1))
+unfoldable pub lowest : (ℕ → Bool) → ℕ → ℕ → Option ℕ
+lowest passes zero c = None
+lowest passes (suc left) c = pick (passes c) (Some c) (lowest passes left (c + 1))
 
-unfoldable pub lowest_listening : List ℕ → ℕ → ℕ → Choice
+unfoldable pub lowest_listening : List ℕ → ℕ → ℕ → Option ℕ
 lowest_listening m high low = lowest (λ c. takes m c high low) channels 0
 
-unfoldable pub won : List ℕ → Choice → Winner
-won m Nothing = nobody
-won m (Lowest c) = winner_of m c
+unfoldable pub won : List ℕ → Option ℕ → Winner
+won m None = nobody
+won m (Some c) = winner_of m c
 
 unfoldable pub winner_for : List ℕ → ℕ → ℕ → Winner
 winner_for m high low = won m (lowest_listening m high low)
@@ -186,7 +184,7 @@ sendable b longest = both b.legal (leb b.length (longest + 1))
 unfoldable pub ready : List ℕ → ℕ → ℕ → Bool
 ready m longest c = both (asks_to_send (channel_at m c)) (sendable (buffer_of m c) longest)
 
-unfoldable pub lowest_ready : List ℕ → ℕ → Choice
+unfoldable pub lowest_ready : List ℕ → ℕ → Option ℕ
 lowest_ready m longest = lowest (ready m longest) channels 0
 
 -- ---- who replies (02, Req 01: "The replier is the lowest match with 1,0,0,0, CHER 0 and a legal M_L, if no lower 1,0,1,0 matches")
@@ -198,9 +196,9 @@ settles_reply m longest high low c =
     (pick (request_detection (status_bits (channel_at m c))) (buffer_of m c).legal
     (both (immediate_reply (status_bits (channel_at m c))) (both (not (cher (channel_at m c).status)) (sendable (buffer_of m c) longest))))
 
-unfoldable pub if_replies : List ℕ → Choice → Choice
-if_replies m Nothing = Nothing
-if_replies m (Lowest c) = pick (immediate_reply (status_bits (channel_at m c))) (Lowest c) Nothing
+unfoldable pub if_replies : List ℕ → Option ℕ → Option ℕ
+if_replies m None = None
+if_replies m (Some c) = pick (immediate_reply (status_bits (channel_at m c))) (Some c) None
 
-unfoldable pub replier_for : List ℕ → ℕ → ℕ → ℕ → Choice
+unfoldable pub replier_for : List ℕ → ℕ → ℕ → ℕ → Option ℕ
 replier_for m longest high low = if_replies m (lowest (settles_reply m longest high low) channels 0)

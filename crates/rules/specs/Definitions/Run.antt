@@ -1,7 +1,7 @@
 -- The step rule and the run (demand 3: "each event gets the controller that the last one left").
 --   fresh == a fresh controller        step == an event's answer        next, after == the controller after an event, after a list of events
---   unless_refused == the first refusal that is due, or the answer of an accepted call
-use Rattle.std.specs.Prelude.{ℕ, ◌%◌, Bool, not, List, [], ◌∷◌, ◌++◌, ltb, get_or, replicate}
+--   unless_refused == the first refusal that is due, or the answer of an accepted call        first_due == the first refusal that is due, if any
+use Rattle.std.specs.Prelude.{ℕ, ◌%◌, Bool, not, List, [], ◌∷◌, ◌++◌, Result, Ok, Err, ltb, get_or, replicate}
 use Rattle.line.specs.Bits.{pick}
 use Rattle.rules.specs.Definitions.Registers.{line_control, transmitted}
 use Rattle.rules.specs.Definitions.State.{in_range, is_active, reset_core}
@@ -30,6 +30,11 @@ accept value c = record { refused = 0; value = value; next = c }
 unfoldable pub unless_refused : Controller → List (Bool × Refusal) → Answer → Answer
 unless_refused c [] a = a
 unless_refused c (r ∷ rs) a = pick r.0 (refuse c r.1) (unless_refused c rs a)
+
+-- the first refusal whose test holds, if one does
+unfoldable pub first_due : List (Bool × Refusal) → Result Unit Refusal
+first_due [] = Ok tt
+first_due (r ∷ rs) = pick r.0 (Err r.1) (first_due rs)
 
 -- "Pin reset: 6."
 unfoldable pub pin_reset : Controller → Answer

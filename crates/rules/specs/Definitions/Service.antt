@@ -3,7 +3,7 @@
 --   memory_ended, report_judged, report_ended == memory map and registers        chosen, choose, started == choice and start
 --   answered_as == what an answer is for its request        fulfils == a stored reply ends a waiting request
 --   judge_reply, replied, memory_replied, report_replied, reply_taken == an immediate reply
-use Rattle.std.specs.Prelude.{ℕ, ◌+◌, ◌%◌, Bool, true, false, List, eqb, ltb, get_or, replicate}
+use Rattle.std.specs.Prelude.{ℕ, ◌+◌, ◌%◌, Bool, true, false, List, eqb, ltb, get_or, replicate, Option, None, Some}
 use Rattle.line.specs.Bits.{pick}
 use Rattle.rules.specs.Definitions.Longest.{capacity}
 use Rattle.rules.specs.Definitions.Setters.{with_te, with_tok, with_re, with_sending, with_message, with_error, with_flags, with_frame, with_setting, with_progress, with_channel, with_abort, with_rear, with_effort}
@@ -14,8 +14,6 @@ use Rattle.rules.specs.Definitions.Reception.{free, under_way, start_ended, repl
 use Rattle.rules.specs.Definitions.Attempt.{no_counts, at_stage, in_service, between_attempts, waits, drives_frame, is_answered, is_request, rtr_slot, judge_slot, exhausted}
 use Rattle.rules.specs.declared.Retries.{Retries}
 use Rattle.rules.specs.declared.Report.{Report}
-use Rattle.rules.specs.declared.Choice.{Choice}
-use Rattle.rules.specs.declared.Choice.TheVariants.{Nothing, Lowest}
 use Rattle.rules.specs.declared.Line.{Line}
 use Rattle.rules.specs.declared.Place.{Place}
 use Rattle.rules.specs.declared.Reception.{Reception}
@@ -193,9 +191,9 @@ report_replied Done x c = with_flags (with_message x (record { count = 0; channe
 report_replied Answered x c = x
 
 -- the reply of the channel that replies, taken with its data bytes; it begins at RTR's first half
-unfoldable pub reply_by : List ℕ → ℕ → ℕ → Choice → ImmediateReply
-reply_by m high low Nothing = no_reply
-reply_by m high low (Lowest c) = record { going = true; channel = c; at = rtr_slot; frame = coded (reply_frame m c high low) }
+unfoldable pub reply_by : List ℕ → ℕ → ℕ → Option ℕ → ImmediateReply
+reply_by m high low None = no_reply
+reply_by m high low (Some c) = record { going = true; channel = c; at = rtr_slot; frame = coded (reply_frame m c high low) }
 
 unfoldable pub reply_taken : List ℕ → ℕ → Reception → ImmediateReply
 reply_taken m longest r = reply_by m (get_or r.bytes 0 0) (reply_low r) (replier_for m longest (get_or r.bytes 0 0) (reply_low r))
@@ -208,9 +206,9 @@ chosen m c =
     with_effort (with_channel resting c)
     (with_progress (with_setting (with_frame resting.effort (coded (sent_frame m c))) (retry_setting (get_or m transmit_control 0))) (at_stage Waiting 0))
 
-unfoldable pub choice_of : List ℕ → Choice → Service
-choice_of m Nothing = resting
-choice_of m (Lowest c) = chosen m c
+unfoldable pub choice_of : List ℕ → Option ℕ → Service
+choice_of m None = resting
+choice_of m (Some c) = chosen m c
 
 -- "the lowest channel .. is chosen"
 unfoldable pub choose : List ℕ → ℕ → Service

@@ -1,5 +1,5 @@
 -- What is claimed of the controller's rules: reset values, matching, closed runs. The claims over every run of events are in crates/every_run.
-use Rattle.std.specs.Prelude.{ℕ, ◌≤◌, ◌<◌, Bool, true, false, List, [], ◌∷◌, ◌++◌, ◌≡◌, get_or, length, take, drop, replicate}
+use Rattle.std.specs.Prelude.{ℕ, ◌≤◌, ◌<◌, Bool, true, false, List, [], ◌∷◌, ◌++◌, ◌≡◌, get_or, length, take, drop, replicate, Some}
 use Rattle.line.specs.LineCode.{line_code}
 use Rattle.line.specs.Frame.{byte_bits, slots}
 use Rattle.rules.specs.Definitions.Registers.{either, reset_values, retry_setting}
@@ -11,7 +11,6 @@ use Rattle.rules.specs.Definitions.Slots.{drives}
 use Rattle.rules.specs.Definitions.Host.{reset_all, byte_read, line_status_of, interrupt_line}
 use Rattle.rules.specs.Definitions.Run.{fresh, step}
 use Rattle.rules.specs.Statements.Runs.{set_up, ones, levels, sent, overdriven, ran, listening, asking, last_answer, sees, pin, again, sending_data, failures, overdriven_at, refuses, reads_from, writes_from, framed, heard_by, offered, types, flipped, beyond, largest_of, lower, captured, room_for}
-use Rattle.rules.specs.declared.Choice.TheVariants.{Lowest}
 use Rattle.rules.specs.declared.Mode.TheVariants.{Active}
 use Rattle.rules.specs.declared.Controller.{Controller}
 use Rattle.rules.specs.declared.Event.TheVariants.{Reset, Slot, Write, Read}
@@ -32,7 +31,7 @@ pub record Matching : Type 0 where
   pub sound : (tag mask identifier : ℕ) → matches tag mask identifier ≡ true → (k : ℕ) → bit_at mask k ≡ 1 → bit_at tag k ≡ bit_at identifier k
   pub complete : (tag mask identifier : ℕ) → ((k : ℕ) → bit_at mask k ≡ 1 → bit_at tag k ≡ bit_at identifier k) → matches tag mask identifier ≡ true
   -- "Lowest channel number wins": the one that is found passes, and none below it does
-  pub wins : (passes : ℕ → Bool) (left from c : ℕ) → lowest passes left from ≡ Lowest c → (passes c ≡ true) × ((k : ℕ) → from ≤ k → k < c → passes k ≡ false)
+  pub wins : (passes : ℕ → Bool) (left from c : ℕ) → lowest passes left from ≡ Some c → (passes c ≡ true) × ((k : ℕ) → from ≤ k → k < c → passes k ≡ false)
 
 -- closed runs, by what a host reads after them, by the level at the pin and by the state. Under each edit of must-fail/ that no law refuses one of them comes out
 -- otherwise. Further closed runs are in crates/closed_runs
@@ -92,7 +91,7 @@ pub record Courses : Type 0 where
   pub spoilt_beside_chtx : sees (heard_by (Write 0x1B 0x1A ∷ []) (take 34 (slots asking) ++ (0 ∷ []))) (0x07 ∷ 0x09 ∷ 0x1B ∷ []) ≡ 0x02 ∷ 0x84 ∷ 0x1E ∷ []
   -- who sends: 0,0,0,1; 1,0,0,1; M_L 31; channel 1, linked to channel 0, in place of a channel 0 with 1,0,0,0 or CHER 1
   pub sends_again : sees (offered 0x38 0x09) (0x04 ∷ 0x05 ∷ []) ≡ 0x02 ∷ 0x00 ∷ []
-  pub deferred_reply_lem : sees (offered 0x3A 0x09) (0x04 ∷ 0x05 ∷ []) ≡ 0x02 ∷ 0x00 ∷ []
+  pub deferred_reply_sent : sees (offered 0x3A 0x09) (0x04 ∷ 0x05 ∷ []) ≡ 0x02 ∷ 0x00 ∷ []
   pub longest_sent : sees (offered 0x38 0xF8) (0x04 ∷ 0x05 ∷ []) ≡ 0x02 ∷ 0x00 ∷ []
   pub no_reply_yet : sees (offered 0x3A 0x08) (0x04 ∷ 0x05 ∷ []) ≡ 0x02 ∷ 0x01 ∷ []
   pub cher_1 : sees (offered 0x38 0x0C) (0x04 ∷ 0x05 ∷ []) ≡ 0x02 ∷ 0x01 ∷ []
