@@ -9,7 +9,9 @@ ghost use Rattle.line.specs.Frame as frame;
 use std::io;
 use std::io::{Read, Write};
 
+// Standard input is read so in four programs: each stands alone, and a crate for these lines is no plainer.
 fn main(rt: HostRuntime) -> io::Result<()> {
+    // fixed memory: no program allocates; the first 4,096 bytes are read
     let mut room = [0u8; 4096];
     let n = io::copy(&mut rt.reader().take(4096), &mut &mut room[..])?;
     compare(&mut io::writer(&rt), &room[..n.min(4096) as usize])
@@ -42,7 +44,7 @@ fn bit_divided(remainder: u16, bit: u8) -> u16
     ensures { result ≡ check.check_bit remainder bit }
 {
     let low = remainder % 16384 * 2;
-    if remainder / 16384 == bit as u16 {
+    if remainder / 16384 == u16::from(bit) {
         return low;
     }
     low ^ 0b000111110011101

@@ -13,8 +13,7 @@ fn word(s: &[u8], k: usize) -> &[u8] {
 }
 
 fn decimal(s: &[u8]) -> u32 {
-    s.iter()
-        .fold(0u32, |x, digit| (x % 100000) * 10 + (*digit % 16) as u32)
+    s.iter().fold(0u32, |x, digit| (x % 100000) * 10 + u32::from(*digit % 16))
 }
 
 // The value of word k.
@@ -22,6 +21,7 @@ fn value_of(s: &[u8], k: usize) -> u32 {
     decimal(word(s, k))
 }
 
+// Beside session_cases' `digit`: each program stands alone, and a crate for these lines is no plainer.
 fn digit(b: u8) -> u8 {
     if b < 58 {
         return b % 16;
@@ -38,8 +38,8 @@ fn front(s: &mut [u8], n: usize) -> &mut [u8] {
 // Two hexadecimal digits a byte, as many as there is room for; `-` is none.
 fn read_bytes<'a>(s: &[u8], out: &'a mut [u8]) -> &'a [u8] {
     let n = out.len().min(s.len() / 2);
-    for k in 0..n {
-        out[k] = digit(s[2 * k]) % 16 * 16 + digit(s[2 * k + 1]) % 16;
+    for (place, pair) in out.iter_mut().zip(s.chunks_exact(2)) {
+        *place = digit(pair[0]) % 16 * 16 + digit(pair[1]) % 16;
     }
     &out[..n]
 }
@@ -48,8 +48,8 @@ fn read_bytes<'a>(s: &[u8], out: &'a mut [u8]) -> &'a [u8] {
 fn read_slots<'a>(s: &[u8], out: &'a mut [u8]) -> &'a [u8] {
     let end = s.iter().position(|byte| *byte == b'-').unwrap_or(s.len());
     let n = end.min(s.len()).min(out.len());
-    for k in 0..n {
-        out[k] = s[k] % 16;
+    for (place, digit) in out.iter_mut().zip(&s[..n]) {
+        *place = *digit % 16;
     }
     &out[..n]
 }
@@ -79,6 +79,7 @@ fn say_bytes<W: Write>(out: &mut W, s: &[u8]) -> io::Result<()> {
 
 // encode IDENTIFIER COMMAND DATA ACKNOWLEDGE ROOM
 fn encode_case<W: Write>(out: &mut W, s: &[u8]) -> io::Result<()> {
+    // fixed memory: no program allocates
     let mut data = [0u8; 80];
     let mut slots = [0u8; 512];
     let bytes = read_bytes(word(s, 3), &mut data);
@@ -102,6 +103,7 @@ fn encode_words(s: &[u8], bytes: &[u8], slots: &mut [u8]) -> Result<usize, Refus
 
 // decode SLOTS ROOM
 fn decode_case<W: Write>(out: &mut W, s: &[u8]) -> io::Result<()> {
+    // fixed memory: no program allocates
     let mut room = [0u8; 512];
     let mut data = [0u8; 80];
     let slots = read_slots(word(s, 1), &mut room);
@@ -115,14 +117,15 @@ fn decode_case<W: Write>(out: &mut W, s: &[u8]) -> io::Result<()> {
 fn say_frame<W: Write>(out: &mut W, head: Head, data: &[u8]) -> io::Result<()> {
     let identifier = head.identifier;
     let command = head.command;
-    let acknowledge = head.acknowledge as u8;
+    let acknowledge = u8::from(head.acknowledge);
     write!(out, "{identifier} {command} ")?;
-    say_bytes(out, data.get(..head.count as usize).unwrap_or(&[]))?;
+    say_bytes(out, data.get(..usize::from(head.count)).unwrap_or(&[]))?;
     write!(out, " {acknowledge}")
 }
 
 // captured IDENTIFIER COMMAND DATA: the check that stands in the encoded frame, followed by a zero bit
 fn captured_case<W: Write>(out: &mut W, s: &[u8]) -> io::Result<()> {
+    // fixed memory: no program allocates
     let mut data = [0u8; 80];
     let mut slots = [0u8; 512];
     let bytes = read_bytes(word(s, 3), &mut data);
@@ -154,6 +157,7 @@ fn byte_at(s: &[u8; 512], at: usize) -> u8
 
 // bytes DATA: the check of the bytes alone
 fn bytes_case<W: Write>(out: &mut W, s: &[u8]) -> io::Result<()> {
+    // fixed memory: no program allocates
     let mut data = [0u8; 80];
     let check = frame_check::check_of(read_bytes(word(s, 1), &mut data));
     write!(out, "{check:04X}")
@@ -190,7 +194,9 @@ fn run<W: Write>(out: &mut W, s: &[u8]) -> io::Result<()> {
     Ok(())
 }
 
+// Standard input is read so in four programs: each stands alone, and a crate for these lines is no plainer.
 fn main(rt: HostRuntime) -> io::Result<()> {
+    // fixed memory: no program allocates; the first 131,072 bytes are read
     let mut text = [0u8; 131072];
     let n = io::copy(&mut rt.reader().take(131072), &mut &mut text[..])?;
     run(&mut io::writer(&rt), &text[..n.min(131072) as usize])

@@ -16,7 +16,7 @@ use rules::Event;
 
 // The frame's slots, into lent room, and how many; or the refusal's number.
 #[unsafe(no_mangle)]
-#[tactic(auto, using(std::proofs::lemmas::Bool::Decides::nat_tests, crate::proofs::Answers::encoded_slots, crate::proofs::Answers::encoded_not))]
+#[tactic(auto, unfolding(crate::specs::Calls::encode_number, crate::specs::Calls::slot_count))]
 pub extern "C" fn frapmast_encode(
     identifier: u32,
     command: u32,
@@ -43,7 +43,7 @@ pub extern "C" fn frapmast_encode(
 
 // The frame that the slots are: its head, and its data bytes in lent room; or the refusal's number.
 #[unsafe(no_mangle)]
-#[tactic(auto, using(std::proofs::lemmas::Bool::Decides::nat_tests, crate::proofs::Answers::decoded_head, crate::proofs::Answers::decoded_not))]
+#[tactic(auto, unfolding(crate::specs::Calls::decode_number, crate::specs::Calls::head, crate::specs::Calls::flag))]
 pub extern "C" fn frapmast_decode(slots: &[u8], room: &mut [u8], head: &mut [u16; 4]) -> u8
     ensures answer { result ≡ rule.decode_number (rule.decoding room.old slots.now) }
     ensures head { head.new ≡ rule.head (rule.decoding room.old slots.now) }
@@ -53,9 +53,9 @@ pub extern "C" fn frapmast_decode(slots: &[u8], room: &mut [u8], head: &mut [u16
         Ok(h) => {
             *head = [
                 h.identifier,
-                h.command as u16,
-                h.count as u16,
-                h.acknowledge as u16,
+                u16::from(h.command),
+                u16::from(h.count),
+                u16::from(h.acknowledge),
             ];
             0
         }
@@ -68,7 +68,7 @@ pub extern "C" fn frapmast_decode(slots: &[u8], room: &mut [u8], head: &mut [u16
 
 // The session's listing, in lent room, and its length; or 13, and nothing is written.
 #[unsafe(no_mangle)]
-#[tactic(auto, using(std::proofs::lemmas::Bool::Decides::nat_tests, crate::proofs::Answers::played_listed, crate::proofs::Answers::played_short))]
+#[tactic(auto, unfolding(bench_record::specs::Record::number, crate::specs::Calls::listing_length))]
 pub extern "C" fn frapmast_play(session: &[u8], room: &mut [u8], length: &mut usize) -> u8
     ensures answer { result ≡ player_rule.number (rule.playing room.old session.now) }
     ensures length { length.new ≡ rule.listing_length (rule.playing room.old session.now) }
@@ -90,7 +90,6 @@ pub extern "C" fn frapmast_play(session: &[u8], room: &mut [u8], length: &mut us
 
 // A fresh controller, whatever was lent.
 #[unsafe(no_mangle)]
-#[tactic(auto, using(std::proofs::lemmas::Bool::Decides::nat_tests))]
 pub extern "C" fn frapmast_fresh(map: &mut [u8; 256], row: &mut [u8; row::ROW])
     ensures { answers.controller map.new (row_rule.core_of row.new) ≡ run.fresh }
 {
@@ -99,7 +98,7 @@ pub extern "C" fn frapmast_fresh(map: &mut [u8; 256], row: &mut [u8; row::ROW])
 
 // Pin reset: the refusal's number or 0.
 #[unsafe(no_mangle)]
-#[tactic(auto, using(std::proofs::lemmas::Bool::Decides::nat_tests), unfolding(rules::specs::Definitions::Answers::lent))]
+#[tactic(auto, unfolding(rules::specs::Definitions::Answers::lent))]
 pub extern "C" fn frapmast_reset(map: &mut [u8; 256], row: &mut [u8; row::ROW]) -> u8
     ensures answer { result ≡ (run.step (answers.controller map.old (row_rule.core_of row.old)) event.Reset).refused }
     ensures state { answers.controller map.new (row_rule.core_of row.new) ≡ (run.step (answers.controller map.old (row_rule.core_of row.old)) event.Reset).next }
@@ -110,7 +109,7 @@ pub extern "C" fn frapmast_reset(map: &mut [u8; 256], row: &mut [u8; row::ROW]) 
 
 // A host write: the refusal's number or 0.
 #[unsafe(no_mangle)]
-#[tactic(auto, using(std::proofs::lemmas::Bool::Decides::nat_tests), unfolding(rules::specs::Definitions::Answers::lent))]
+#[tactic(auto, unfolding(rules::specs::Definitions::Answers::lent))]
 pub extern "C" fn frapmast_write(
     map: &mut [u8; 256],
     row: &mut [u8; row::ROW],
@@ -126,7 +125,7 @@ pub extern "C" fn frapmast_write(
 
 // A host read: the refusal's number or 0, and the byte read or 0.
 #[unsafe(no_mangle)]
-#[tactic(auto, using(std::proofs::lemmas::Bool::Decides::nat_tests), unfolding(rules::specs::Definitions::Answers::lent))]
+#[tactic(auto, unfolding(rules::specs::Definitions::Answers::lent))]
 pub extern "C" fn frapmast_read(
     map: &[u8; 256],
     row: &[u8; row::ROW],
@@ -143,7 +142,7 @@ pub extern "C" fn frapmast_read(
 
 // A slot: the refusal's number or 0, and the level of TXD for the next slot or 0.
 #[unsafe(no_mangle)]
-#[tactic(auto, using(std::proofs::lemmas::Bool::Decides::nat_tests), unfolding(rules::specs::Definitions::Answers::lent))]
+#[tactic(auto, unfolding(rules::specs::Definitions::Answers::lent))]
 pub extern "C" fn frapmast_slot(
     map: &mut [u8; 256],
     row: &mut [u8; row::ROW],
@@ -162,7 +161,6 @@ pub extern "C" fn frapmast_slot(
 
 // The interrupt line.
 #[unsafe(no_mangle)]
-#[tactic(auto, using(std::proofs::lemmas::Bool::Decides::nat_tests))]
 pub extern "C" fn frapmast_interrupt(map: &[u8; 256], row: &[u8; row::ROW]) -> bool
     ensures { result ≡ host_rule.interrupt_line (answers.controller map.now (row_rule.core_of row.now)) }
 {

@@ -11,7 +11,14 @@ use lib.Dec.{eqb, ltb, leb}
 use lib.ListN.{get_or, set, length, length-set, take, drop}
 use lib.Seq.{sets, sets-eq, get_or-set_same, get_or-set_other, drop-cons}
 use borrow.Rule.Slice.PartMut.{put_mid}
-use borrow.Author.Tests.{eqb-true, eqb-false, ltb-true, ltb-false, leb-true, leb-false, eq-eqb, ne_eqb}
+use borrow.Author.Tests.{eqb-true, eqb-false, ltb-true, ltb-false, leb-true, leb-false}
+use mir.Val.{bool_byte}
+use denote.Enum.Declared.{tag_of}
+use Rattle.rules.specs.contracts.Mode.{the_type as the_mode}
+use Rattle.rules.specs.contracts.Phase.{the_type as the_phase}
+use Rattle.rules.specs.contracts.Stage.{the_type as the_stage}
+use Rattle.diagnosis.specs.contracts.Condition.{the_type as the_condition}
+use Rattle.std.specs.Int.{w16, w32, to_le_bytes}
 use Rattle.std.proofs.lemmas.List.{take_all}
 use Rattle.std.proofs.lemmas.Slice.{put_mid-paste}
 use Rattle.line.specs.Bits.{pick}
@@ -27,7 +34,7 @@ use Rattle.rules.specs.declared.Phase.TheVariants.{Quiet, Start, Body, Acknowled
 use Rattle.rules.specs.declared.Stage.{Stage}
 use Rattle.rules.specs.declared.Stage.TheVariants.{Resting, Waiting, Opening, Sending, Receiving}
 use Rattle.row.specs.Row.{byte_at, bytes_from, mode_of, phase_of, stage_of, condition_of, core_by, core_of}
-use Rattle.row.specs.Bytes.{bit, mode_byte, phase_byte, stage_byte, condition_byte}
+use Rattle.row.specs.Bytes.{with_half, with_word}
 
 -- ---- one write
 
@@ -82,35 +89,39 @@ words at x ws = (at, x % 256) ∷ (at + 1, x / 256 % 256) ∷ (at + 2, x / 65536
 
 -- ---- what was laid is read back
 
-pub bit_back : (b : Bool) → eqb (bit b) 1 ≡ b
-unfolding bit
-bit_back true = refl
-bit_back false = refl
+-- an enum as the byte that `as` makes of it
+abbrev pub mode_byte : Mode → ℕ
+mode_byte x = tag_of the_mode x
 
 pub mode_back : (x : Mode) → mode_of (mode_byte x) ≡ x
-unfolding mode_byte
 mode_back Idle = refl
 mode_back Active = refl
 mode_back Asleep = refl
 
+abbrev pub phase_byte : Phase → ℕ
+phase_byte x = tag_of the_phase x
+
 pub phase_back : (x : Phase) → phase_of (phase_byte x) ≡ x
-unfolding phase_byte
 phase_back Quiet = refl
 phase_back Start = refl
 phase_back Body = refl
 phase_back Acknowledge = refl
 phase_back End = refl
 
+abbrev pub stage_byte : Stage → ℕ
+stage_byte x = tag_of the_stage x
+
 pub stage_back : (x : Stage) → stage_of (stage_byte x) ≡ x
-unfolding stage_byte
 stage_back Resting = refl
 stage_back Waiting = refl
 stage_back Opening = refl
 stage_back Sending = refl
 stage_back Receiving = refl
 
+abbrev pub condition_byte : Condition → ℕ
+condition_byte x = tag_of the_condition x
+
 pub condition_back : (x : Condition) → condition_of (condition_byte x) ≡ x
-unfolding condition_byte
 condition_back Nominal = refl
 condition_back DegradedOnData = refl
 condition_back DegradedOnDataBar = refl
@@ -122,20 +133,9 @@ half_back x = omega arith
 pub word_back : (x : ℕ) → x % 256 + x / 256 % 256 * 256 + x / 65536 % 256 * 65536 + x / 16777216 * 16777216 ≡ x
 word_back x = omega arith
 
-pub flag_laid : (x : ℕ) (b : Bool) → x ≡ bit b → eqb x 1 ≡ b
-flag_laid x b e = ap (λ (n : ℕ). eqb n 1) e ∙ bit_back b
-
-pub mode_laid : (x : ℕ) (m : Mode) → x ≡ mode_byte m → mode_of x ≡ m
-mode_laid x m e = ap mode_of e ∙ mode_back m
-
-pub phase_laid : (x : ℕ) (p : Phase) → x ≡ phase_byte p → phase_of x ≡ p
-phase_laid x p e = ap phase_of e ∙ phase_back p
-
-pub stage_laid : (x : ℕ) (t : Stage) → x ≡ stage_byte t → stage_of x ≡ t
-stage_laid x t e = ap stage_of e ∙ stage_back t
-
-pub condition_laid : (x : ℕ) (t : Condition) → x ≡ condition_byte t → condition_of x ≡ t
-condition_laid x t e = ap condition_of e ∙ condition_back t
+pub flag_laid : (x : ℕ) (b : Bool) → x ≡ bool_byte b → eqb x 1 ≡ b
+flag_laid x true e = ap (λ (n : ℕ). eqb n 1) e
+flag_laid x false e = ap (λ (n : ℕ). eqb n 1) e
 
 -- ---- a frame
 
@@ -230,9 +230,27 @@ cut (suc n) s at h =
 pub frame_cut : (s : List ℕ) (at k : ℕ) → k ≡ 34 → at + 34 ≤ length s → take k (drop at s) ≡ bytes_from 34 (byte_at s) at
 frame_cut s at k e h = rw e (cut 34 s at h)
 
-pub frame_put : (s b ys : List ℕ) (at k : ℕ) → ys ≡ b → k ≡ 34 → length b ≡ 34 → at + 34 ≤ length s → put_mid at k s ys ≡ sets s at b
-frame_put s b ys at k e d n h =
-    let t : take 34 b ≡ b = take_all 34 b (omega (arith, n)) in
+laid : (m : ℕ) (s b ys : List ℕ) (at k : ℕ) → ys ≡ b → k ≡ m → length b ≡ m → at + m ≤ length s → put_mid at k s ys ≡ sets s at b
+laid m s b ys at k e d n h =
+    let t : take m b ≡ b = take_all m b (omega (arith, n)) in
     let r : sets s at b ≡ take at s ++ b ++ drop (at + length b) s = sets-eq b s at (omega (arith, n, h)) in
-    let p : take at s ++ take 34 b ++ drop (at + 34) s ≡ take at s ++ b ++ drop (at + length b) s = rw (t, n) in
-    put_mid-paste at k s ys b 34 e (sym d) (sym n) ∙ p ∙ sym r
+    let p : take at s ++ take m b ++ drop (at + m) s ≡ take at s ++ b ++ drop (at + length b) s = rw (t, n) in
+    put_mid-paste at k s ys b m e (sym d) (sym n) ∙ p ∙ sym r
+
+pub frame_put : (s b ys : List ℕ) (at k : ℕ) → ys ≡ b → k ≡ 34 → length b ≡ 34 → at + 34 ≤ length s → put_mid at k s ys ≡ sets s at b
+frame_put s b ys at k e d n h = laid 34 s b ys at k e d n h
+
+pub half_put : (s ys : List ℕ) (at k x : ℕ) → ys ≡ to_le_bytes w16 x → k ≡ 2 → x < 65536 → at + 2 ≤ length s → put_mid at k s ys ≡ with_half s at x
+half_put s ys at k x e d f h =
+    let p : suc at ≡ at + 1 = omega arith in
+    let b : x / 256 % 256 ≡ x / 256 = omega (arith, f) in
+    laid 2 s (to_le_bytes w16 x) ys at k e d refl h ∙ (λ i. set (set s at (x % 256)) (p i) (b i))
+
+pub word_put : (s ys : List ℕ) (at k x : ℕ) → ys ≡ to_le_bytes w32 x → k ≡ 4 → x < 4294967296 → at + 4 ≤ length s → put_mid at k s ys ≡ with_word s at x
+word_put s ys at k x e d f h =
+    let p : suc at ≡ at + 1 = omega arith in
+    let q : suc (suc at) ≡ at + 2 = omega arith in
+    let r : suc (suc (suc at)) ≡ at + 3 = omega arith in
+    let b : x / 16777216 % 256 ≡ x / 16777216 = omega (arith, f) in
+    laid 4 s (to_le_bytes w32 x) ys at k e d refl h
+    ∙ (λ i. set (set (set (set s at (x % 256)) (p i) (x / 256 % 256)) (q i) (x / 65536 % 256)) (r i) (b i))

@@ -108,8 +108,8 @@ abbrev pub reception_by : (ℕ → ℕ) → Reception
 reception_by byte =
     record { place = place_by byte; nibbles = byte place.nibbles; bits = byte place.bits; bytes = frame_at byte place.heard; winner = winner_by byte }
 
-abbrev pub own_by : (ℕ → ℕ) → Coded
-own_by byte = record { n = byte place.own_data; bytes = frame_at byte place.own }
+abbrev pub coded_by : (ℕ → ℕ) → ℕ → ℕ → Coded
+coded_by byte n at = record { n = byte n; bytes = frame_at byte at }
 
 abbrev pub progress_by : (ℕ → ℕ) → Progress
 progress_by byte = record { stage = stage_of (byte place.stage); at = half_at byte place.next }
@@ -119,17 +119,14 @@ counters_by byte =
     record { slots = record { 0 = word_at byte place.slots }; lost = record { 0 = word_at byte place.lost }; errors = record { 0 = word_at byte place.errors } }
 
 abbrev pub effort_by : (ℕ → ℕ) → Effort
-effort_by byte = record { frame = own_by byte; setting = byte place.setting; progress = progress_by byte; counters = counters_by byte }
+effort_by byte = record { frame = coded_by byte place.own_data place.own; setting = byte place.setting; progress = progress_by byte; counters = counters_by byte }
 
 abbrev pub service_by : (ℕ → ℕ) → Service
 service_by byte = record { channel = byte place.channel; abort = flag_at byte place.abort; rear = flag_at byte place.rear; effort = effort_by byte }
 
-abbrev pub reply_frame_by : (ℕ → ℕ) → Coded
-reply_frame_by byte = record { n = byte place.reply_data; bytes = frame_at byte place.reply }
-
 abbrev pub reply_by : (ℕ → ℕ) → ImmediateReply
 reply_by byte =
-    record { going = flag_at byte place.going; channel = byte place.reply_channel; at = half_at byte place.reply_next; frame = reply_frame_by byte }
+    record { going = flag_at byte place.going; channel = byte place.reply_channel; at = half_at byte place.reply_next; frame = coded_by byte place.reply_data place.reply }
 
 abbrev pub period_by : (ℕ → ℕ) → Period
 period_by byte =

@@ -20,173 +20,150 @@ pub const ROW: usize = 176;
 
 // The place of each number. A number of 16 or 32 bits stands low byte first, a frame byte after byte.
 #[derive(Clone, Copy)]
-pub struct At {}
+struct At {}
 
 impl At {
     // Retries and channel of 0x05.
-    pub const SENDING: usize = 0;
+    const SENDING: usize = 0;
 
     // And of 0x06.
-    pub const MESSAGE: usize = 2;
+    const MESSAGE: usize = 2;
 
     // 0x07.
-    pub const ERROR: usize = 4;
+    const ERROR: usize = 4;
 
     // Recessive slots in a row.
-    pub const COUNT: usize = 5;
+    const COUNT: usize = 5;
 
     // The slot of the phase.
-    pub const SLOT: usize = 6;
+    const SLOT: usize = 6;
 
     // Whole nibbles taken.
-    pub const NIBBLES: usize = 7;
+    const NIBBLES: usize = 7;
 
     // Bits of the nibble under way.
-    pub const BITS: usize = 8;
+    const BITS: usize = 8;
 
     // The channel that takes the frame.
-    pub const WINNER_CHANNEL: usize = 9;
+    const WINNER_CHANNEL: usize = 9;
 
     // Its M_L.
-    pub const LENGTH: usize = 10;
+    const LENGTH: usize = 10;
 
     // The channel of the service.
-    pub const CHANNEL: usize = 11;
+    const CHANNEL: usize = 11;
 
     // Data bytes of the frame to be sent.
-    pub const OWN_DATA: usize = 12;
+    const OWN_DATA: usize = 12;
 
     // MR.
-    pub const SETTING: usize = 13;
+    const SETTING: usize = 13;
 
     // The channel of the reply.
-    pub const REPLY_CHANNEL: usize = 14;
+    const REPLY_CHANNEL: usize = 14;
 
     // Data bytes of the reply.
-    pub const REPLY_DATA: usize = 15;
+    const REPLY_DATA: usize = 15;
 
     // The levels of the last slot.
-    pub const LEVELS: usize = 16;
+    const LEVELS: usize = 16;
 
     // The pointer of the channel that takes the frame.
-    pub const POINTER: usize = 17;
+    const POINTER: usize = 17;
 
     // Attempts that failed.
-    pub const ERRORS: usize = 18;
+    const ERRORS: usize = 18;
 
     // Dominant slots in a row.
-    pub const DOMINANT: usize = 22;
+    const DOMINANT: usize = 22;
 
     // Edges on RxD1.
-    pub const RXD1: usize = 26;
+    const RXD1: usize = 26;
 
     // Edges on RxD2.
-    pub const RXD2: usize = 30;
+    const RXD2: usize = 30;
 
     // Edges on the input connected.
-    pub const CONNECTED: usize = 34;
+    const CONNECTED: usize = 34;
 
     // The slot of the frame that is driven next.
-    pub const NEXT: usize = 38;
+    const NEXT: usize = 38;
 
     // The slot of the reply that is driven next.
-    pub const REPLY_NEXT: usize = 40;
+    const REPLY_NEXT: usize = 40;
 
     // Slots of the SDC period.
-    pub const PERIOD: usize = 42;
+    const PERIOD: usize = 42;
 
     // Slots of attempts.
-    pub const SLOTS: usize = 46;
+    const SLOTS: usize = 46;
 
     // Attempts lost.
-    pub const LOST: usize = 50;
+    const LOST: usize = 50;
 
     // The mode.
-    pub const MODE: usize = 54;
+    const MODE: usize = 54;
 
     // An idle waits.
-    pub const WAITING: usize = 55;
+    const WAITING: usize = 55;
 
     // RST, TE, TOK, RE, ROK, RNOK.
-    pub const FLAGS: usize = 56;
+    const FLAGS: usize = 56;
 
     // A good frame came last.
-    pub const GOOD: usize = 62;
+    const GOOD: usize = 62;
 
     // The phase of the frame under way.
-    pub const PHASE: usize = 63;
+    const PHASE: usize = 63;
 
     // A channel takes the frame.
-    pub const MATCHED: usize = 64;
+    const MATCHED: usize = 64;
 
     // With DRAK.
-    pub const NO_ACKNOWLEDGE: usize = 65;
+    const NO_ACKNOWLEDGE: usize = 65;
 
     // An abort waits.
-    pub const ABORT: usize = 66;
+    const ABORT: usize = 66;
 
     // A rearbitration waits.
-    pub const REAR: usize = 67;
+    const REAR: usize = 67;
 
     // The stage of the service.
-    pub const STAGE: usize = 68;
+    const STAGE: usize = 68;
 
     // A reply is under way.
-    pub const GOING: usize = 69;
+    const GOING: usize = 69;
 
     // The state of the diagnosis.
-    pub const CONDITION: usize = 70;
+    const CONDITION: usize = 70;
 
     // Whose turn it is in major error.
-    pub const ALTERNATE: usize = 71;
+    const ALTERNATE: usize = 71;
 
     // Sc.
-    pub const SC: usize = 72;
+    const SC: usize = 72;
 
     // A slot of the period had a finding.
-    pub const FAILURE: usize = 73;
+    const FAILURE: usize = 73;
 
     // The frame under way.
-    pub const HEARD: usize = 74;
+    const HEARD: usize = 74;
 
     // The frame to be sent.
-    pub const OWN: usize = 108;
+    const OWN: usize = 108;
 
     // The reply.
-    pub const REPLY: usize = 142;
-}
-
-// ---- the length of a row
-
-fn whole(s: &[u8; ROW]) -> [u8; ROW]
-    ensures { result ≡ s.now }
-{
-    *s
-}
-
-// Tells a proof how long the row is: its type says so. It does nothing.
-#[tactic(auto, using(std::proofs::lemmas::Bool::Decides::nat_tests))]
-fn length_known(s: &[u8; ROW])
-    ensures { length s.now ≡ 176 }
-{
-    let t = whole(s);
+    const REPLY: usize = 142;
 }
 
 // ---- numbers and frames
-
-fn wide(x: u8) -> u32
-    ensures value { result ≡ x }
-    ensures range { result < 256 }
-{
-    x as u32
-}
 
 // A number of 16 bits.
 fn half(s: &[u8; ROW], at: usize) -> u16
     requires { at < 175 }
     ensures { result ≡ rule.half_at (rule.byte_at s.now) at }
 {
-    (wide(s[at]) + wide(s[at + 1]) * 256) as u16
+    u16::from_le_bytes([s[at], s[at + 1]])
 }
 
 // A number of 32 bits.
@@ -194,25 +171,23 @@ fn word(s: &[u8; ROW], at: usize) -> u32
     requires { at < 173 }
     ensures { result ≡ rule.word_at (rule.byte_at s.now) at }
 {
-    wide(s[at]) + wide(s[at + 1]) * 256 + wide(s[at + 2]) * 65536 + wide(s[at + 3]) * 16777216
+    u32::from_le_bytes([s[at], s[at + 1], s[at + 2], s[at + 3]])
 }
 
+#[tactic(auto, using(std::proofs::lemmas::Bool::Decides::nat_tests, crate::proofs::Laws::half_put))]
 fn put_half(s: &mut [u8; ROW], at: usize, x: u16)
     requires { at < 175 }
     ensures { s.new ≡ bytes.with_half s.old at x }
 {
-    s[at] = (x % 256) as u8;
-    s[at + 1] = (x / 256) as u8;
+    s[at..at + 2].copy_from_slice(&x.to_le_bytes());
 }
 
+#[tactic(auto, using(std::proofs::lemmas::Bool::Decides::nat_tests, crate::proofs::Laws::word_put))]
 fn put_word(s: &mut [u8; ROW], at: usize, x: u32)
     requires { at < 173 }
     ensures { s.new ≡ bytes.with_word s.old at x }
 {
-    s[at] = (x % 256) as u8;
-    s[at + 1] = (x / 256 % 256) as u8;
-    s[at + 2] = (x / 65536 % 256) as u8;
-    s[at + 3] = (x / 16777216) as u8;
+    s[at..at + 4].copy_from_slice(&x.to_le_bytes());
 }
 
 // The bytes of a frame.
@@ -226,28 +201,18 @@ fn frame_at(s: &[u8; ROW], at: usize) -> [u8; line::CODED_BYTES]
     b
 }
 
+// Its length too: a proof of a caller does not know it of an array in a struct.
 #[tactic(auto, using(std::proofs::lemmas::Bool::Decides::nat_tests, crate::proofs::Laws::frame_put))]
-fn put_frame(s: &mut [u8; ROW], at: usize, b: [u8; line::CODED_BYTES])
+fn put_frame(s: &mut [u8; ROW], at: usize, b: &[u8; line::CODED_BYTES])
     requires { at ≤ 142 }
-    ensures laid { s.new ≡ sets s.old at b }
-    ensures long { length b ≡ 34 }
+    ensures laid { s.new ≡ sets s.old at b.now }
+    ensures long { length b.now ≡ 34 }
 {
-    s[at..at + line::CODED_BYTES].copy_from_slice(&b);
+    s[at..at + line::CODED_BYTES].copy_from_slice(b);
 }
 
-#[tactic(auto, using(std::proofs::lemmas::Bool::Decides::nat_tests), unfolding(crate::specs::Bytes::bit))]
-fn bit(x: bool) -> u8
-    ensures { result ≡ bytes.bit x }
-{
-    if x {
-        return 1;
-    }
-    0
-}
+// ---- a byte as an enum: its discriminant, and every larger byte is the last
 
-// ---- an enum as a byte
-
-#[tactic(auto, using(std::proofs::lemmas::Bool::Decides::nat_tests))]
 fn mode_of(b: u8) -> Mode
     ensures { result ≡ rule.mode_of b }
 {
@@ -258,18 +223,6 @@ fn mode_of(b: u8) -> Mode
     }
 }
 
-#[tactic(auto, using(std::proofs::lemmas::Bool::Decides::nat_tests), unfolding(crate::specs::Bytes::mode_byte))]
-fn mode_byte(x: Mode) -> u8
-    ensures { result ≡ bytes.mode_byte x }
-{
-    match x {
-        Mode::Idle => 0,
-        Mode::Active => 1,
-        Mode::Asleep => 2,
-    }
-}
-
-#[tactic(auto, using(std::proofs::lemmas::Bool::Decides::nat_tests))]
 fn phase_of(b: u8) -> Phase
     ensures { result ≡ rule.phase_of b }
 {
@@ -282,20 +235,6 @@ fn phase_of(b: u8) -> Phase
     }
 }
 
-#[tactic(auto, using(std::proofs::lemmas::Bool::Decides::nat_tests), unfolding(crate::specs::Bytes::phase_byte))]
-fn phase_byte(x: Phase) -> u8
-    ensures { result ≡ bytes.phase_byte x }
-{
-    match x {
-        Phase::Quiet => 0,
-        Phase::Start => 1,
-        Phase::Body => 2,
-        Phase::Acknowledge => 3,
-        Phase::End => 4,
-    }
-}
-
-#[tactic(auto, using(std::proofs::lemmas::Bool::Decides::nat_tests))]
 fn stage_of(b: u8) -> Stage
     ensures { result ≡ rule.stage_of b }
 {
@@ -308,20 +247,6 @@ fn stage_of(b: u8) -> Stage
     }
 }
 
-#[tactic(auto, using(std::proofs::lemmas::Bool::Decides::nat_tests), unfolding(crate::specs::Bytes::stage_byte))]
-fn stage_byte(x: Stage) -> u8
-    ensures { result ≡ bytes.stage_byte x }
-{
-    match x {
-        Stage::Resting => 0,
-        Stage::Waiting => 1,
-        Stage::Opening => 2,
-        Stage::Sending => 3,
-        Stage::Receiving => 4,
-    }
-}
-
-#[tactic(auto, using(std::proofs::lemmas::Bool::Decides::nat_tests))]
 fn condition_of(b: u8) -> Condition
     ensures { result ≡ rule.condition_of b }
 {
@@ -333,21 +258,8 @@ fn condition_of(b: u8) -> Condition
     }
 }
 
-#[tactic(auto, using(std::proofs::lemmas::Bool::Decides::nat_tests), unfolding(crate::specs::Bytes::condition_byte))]
-fn condition_byte(x: Condition) -> u8
-    ensures { result ≡ bytes.condition_byte x }
-{
-    match x {
-        Condition::Nominal => 0,
-        Condition::DegradedOnData => 1,
-        Condition::DegradedOnDataBar => 2,
-        Condition::MajorError => 3,
-    }
-}
-
 // ---- the state that a row says
 
-#[tactic(auto, using(std::proofs::lemmas::Bool::Decides::nat_tests))]
 fn activity_of(s: &[u8; ROW]) -> Activity
     ensures { result ≡ rule.activity_by (rule.byte_at s.now) }
 {
@@ -380,7 +292,6 @@ fn retries_at(s: &[u8; ROW], at: usize) -> Retries
     }
 }
 
-#[tactic(auto, using(std::proofs::lemmas::Bool::Decides::nat_tests))]
 fn report_of(s: &[u8; ROW]) -> Report
     ensures { result ≡ rule.report_by (rule.byte_at s.now) }
 {
@@ -401,7 +312,6 @@ fn line_of(s: &[u8; ROW]) -> Line
     }
 }
 
-#[tactic(auto, using(std::proofs::lemmas::Bool::Decides::nat_tests))]
 fn place_of(s: &[u8; ROW]) -> Place
     ensures { result ≡ rule.place_by (rule.byte_at s.now) }
 {
@@ -423,7 +333,6 @@ fn winner_of(s: &[u8; ROW]) -> Winner
     }
 }
 
-#[tactic(auto, using(std::proofs::lemmas::Bool::Decides::nat_tests))]
 fn reception_of(s: &[u8; ROW]) -> Reception
     ensures { result ≡ rule.reception_by (rule.byte_at s.now) }
 {
@@ -436,17 +345,17 @@ fn reception_of(s: &[u8; ROW]) -> Reception
     }
 }
 
-#[tactic(auto, using(std::proofs::lemmas::Bool::Decides::nat_tests))]
-fn own_of(s: &[u8; ROW]) -> Coded
-    ensures { result ≡ rule.own_by (rule.byte_at s.now) }
+fn coded_at(s: &[u8; ROW], n: usize, at: usize) -> Coded
+    requires n { n < 176 }
+    requires at { at ≤ 142 }
+    ensures { result ≡ rule.coded_by (rule.byte_at s.now) n at }
 {
     Coded {
-        n: s[At::OWN_DATA],
-        bytes: frame_at(s, At::OWN),
+        n: s[n],
+        bytes: frame_at(s, at),
     }
 }
 
-#[tactic(auto, using(std::proofs::lemmas::Bool::Decides::nat_tests))]
 fn progress_of(s: &[u8; ROW]) -> Progress
     ensures { result ≡ rule.progress_by (rule.byte_at s.now) }
 {
@@ -456,7 +365,6 @@ fn progress_of(s: &[u8; ROW]) -> Progress
     }
 }
 
-#[tactic(auto, using(std::proofs::lemmas::Bool::Decides::nat_tests))]
 fn counters_of(s: &[u8; ROW]) -> Counters
     ensures { result ≡ rule.counters_by (rule.byte_at s.now) }
 {
@@ -467,19 +375,17 @@ fn counters_of(s: &[u8; ROW]) -> Counters
     }
 }
 
-#[tactic(auto, using(std::proofs::lemmas::Bool::Decides::nat_tests))]
 fn effort_of(s: &[u8; ROW]) -> Effort
     ensures { result ≡ rule.effort_by (rule.byte_at s.now) }
 {
     Effort {
-        frame: own_of(s),
+        frame: coded_at(s, At::OWN_DATA, At::OWN),
         setting: s[At::SETTING],
         progress: progress_of(s),
         counters: counters_of(s),
     }
 }
 
-#[tactic(auto, using(std::proofs::lemmas::Bool::Decides::nat_tests))]
 fn service_of(s: &[u8; ROW]) -> Service
     ensures { result ≡ rule.service_by (rule.byte_at s.now) }
 {
@@ -491,17 +397,6 @@ fn service_of(s: &[u8; ROW]) -> Service
     }
 }
 
-#[tactic(auto, using(std::proofs::lemmas::Bool::Decides::nat_tests))]
-fn reply_frame_of(s: &[u8; ROW]) -> Coded
-    ensures { result ≡ rule.reply_frame_by (rule.byte_at s.now) }
-{
-    Coded {
-        n: s[At::REPLY_DATA],
-        bytes: frame_at(s, At::REPLY),
-    }
-}
-
-#[tactic(auto, using(std::proofs::lemmas::Bool::Decides::nat_tests))]
 fn reply_of(s: &[u8; ROW]) -> ImmediateReply
     ensures { result ≡ rule.reply_by (rule.byte_at s.now) }
 {
@@ -509,11 +404,10 @@ fn reply_of(s: &[u8; ROW]) -> ImmediateReply
         going: s[At::GOING] == 1,
         channel: s[At::REPLY_CHANNEL],
         at: half(s, At::REPLY_NEXT),
-        frame: reply_frame_of(s),
+        frame: coded_at(s, At::REPLY_DATA, At::REPLY),
     }
 }
 
-#[tactic(auto, using(std::proofs::lemmas::Bool::Decides::nat_tests))]
 fn period_of(s: &[u8; ROW]) -> Period
     ensures { result ≡ rule.period_by (rule.byte_at s.now) }
 {
@@ -526,7 +420,6 @@ fn period_of(s: &[u8; ROW]) -> Period
     }
 }
 
-#[tactic(auto, using(std::proofs::lemmas::Bool::Decides::nat_tests))]
 fn diagnosis_of(s: &[u8; ROW]) -> Diagnosis
     ensures { result ≡ rule.diagnosis_by (rule.byte_at s.now) }
 {
@@ -558,34 +451,27 @@ pub fn core_of(s: &[u8; ROW]) -> Core
 
 // ---- the row of a state: each writes one part, and the others stay
 
-#[tactic(auto, using(std::proofs::lemmas::Bool::Decides::nat_tests, crate::proofs::Laws::written, crate::proofs::Laws::mode_laid, crate::proofs::Laws::flag_laid), unfolding(crate::specs::Row::core_of, crate::specs::Row::core_by))]
 fn put_activity(s: &mut [u8; ROW], a: Activity)
     ensures { rule.core_of s.new ≡ setter.with_activity (rule.core_of s.old) a }
 {
-    length_known(s);
-    let mode = a.mode;
-    s[At::MODE] = mode_byte(mode);
-    s[At::WAITING] = bit(a.waiting);
+    s[At::MODE] = a.mode as u8;
+    s[At::WAITING] = u8::from(a.waiting);
 }
 
-#[tactic(auto, using(std::proofs::lemmas::Bool::Decides::nat_tests, crate::proofs::Laws::written, crate::proofs::Laws::flag_laid), unfolding(crate::specs::Row::core_of, crate::specs::Row::core_by))]
 fn put_flags(s: &mut [u8; ROW], f: Flags)
     ensures { rule.core_of s.new ≡ setter.with_report (rule.core_of s.old) (setter.with_flags (rule.core_of s.old).report f) }
 {
-    length_known(s);
-    s[At::FLAGS] = bit(f.rst);
-    s[At::FLAGS + 1] = bit(f.te);
-    s[At::FLAGS + 2] = bit(f.tok);
-    s[At::FLAGS + 3] = bit(f.re);
-    s[At::FLAGS + 4] = bit(f.rok);
-    s[At::FLAGS + 5] = bit(f.rnok);
+    s[At::FLAGS] = u8::from(f.rst);
+    s[At::FLAGS + 1] = u8::from(f.te);
+    s[At::FLAGS + 2] = u8::from(f.tok);
+    s[At::FLAGS + 3] = u8::from(f.re);
+    s[At::FLAGS + 4] = u8::from(f.rok);
+    s[At::FLAGS + 5] = u8::from(f.rnok);
 }
 
-#[tactic(auto, using(std::proofs::lemmas::Bool::Decides::nat_tests, crate::proofs::Laws::written), unfolding(crate::specs::Row::core_of, crate::specs::Row::core_by))]
 fn put_report(s: &mut [u8; ROW], x: Report)
     ensures { rule.core_of s.new ≡ setter.with_report (rule.core_of s.old) x }
 {
-    length_known(s);
     s[At::SENDING] = x.sending.count;
     s[At::SENDING + 1] = x.sending.channel;
     s[At::MESSAGE] = x.message.count;
@@ -594,135 +480,106 @@ fn put_report(s: &mut [u8; ROW], x: Report)
     put_flags(s, x.flags);
 }
 
-#[tactic(auto, using(std::proofs::lemmas::Bool::Decides::nat_tests, crate::proofs::Laws::written, crate::proofs::Laws::flag_laid), unfolding(crate::specs::Row::core_of, crate::specs::Row::core_by))]
 fn put_line(s: &mut [u8; ROW], l: Line)
     ensures { rule.core_of s.new ≡ setter.with_line (rule.core_of s.old) l }
 {
-    length_known(s);
-    s[At::GOOD] = bit(l.good);
+    s[At::GOOD] = u8::from(l.good);
     s[At::COUNT] = l.count;
 }
 
-#[tactic(auto, using(std::proofs::lemmas::Bool::Decides::nat_tests, crate::proofs::Laws::written, crate::proofs::Laws::flag_laid), unfolding(crate::specs::Row::core_of, crate::specs::Row::core_by))]
 fn put_winner(s: &mut [u8; ROW], w: Winner)
     ensures { rule.core_of s.new ≡ setter.with_reception (rule.core_of s.old) (reception_rule.with_winner (rule.core_of s.old).reception w) }
 {
-    length_known(s);
-    s[At::MATCHED] = bit(w.matched);
+    s[At::MATCHED] = u8::from(w.matched);
     s[At::WINNER_CHANNEL] = w.channel;
-    s[At::NO_ACKNOWLEDGE] = bit(w.no_acknowledge);
+    s[At::NO_ACKNOWLEDGE] = u8::from(w.no_acknowledge);
     s[At::POINTER] = w.pointer;
     s[At::LENGTH] = w.length;
 }
 
-#[tactic(auto, using(std::proofs::lemmas::Bool::Decides::nat_tests, crate::proofs::Laws::written, crate::proofs::Laws::phase_laid), unfolding(crate::specs::Row::core_of, crate::specs::Row::core_by))]
 fn put_place(s: &mut [u8; ROW], p: Place)
     ensures { rule.core_of s.new ≡ setter.with_reception (rule.core_of s.old) (reception_rule.with_place (rule.core_of s.old).reception p) }
 {
-    length_known(s);
-    let phase = p.phase;
-    s[At::PHASE] = phase_byte(phase);
+    s[At::PHASE] = p.phase as u8;
     s[At::SLOT] = p.at;
 }
 
-#[tactic(auto, using(std::proofs::lemmas::Bool::Decides::nat_tests, crate::proofs::Laws::writes, crate::proofs::Laws::written, crate::proofs::Laws::writes_long, crate::proofs::Laws::heard_framed), unfolding(crate::specs::Row::core_of, crate::specs::Row::core_by))]
 fn put_reception(s: &mut [u8; ROW], r: Reception)
     ensures { rule.core_of s.new ≡ setter.with_reception (rule.core_of s.old) r }
 {
-    length_known(s);
     s[At::NIBBLES] = r.nibbles;
     s[At::BITS] = r.bits;
-    let b = r.bytes;
-    put_frame(s, At::HEARD, b);
+    put_frame(s, At::HEARD, &r.bytes);
     put_place(s, r.place);
     put_winner(s, r.winner);
 }
 
-#[tactic(auto, using(std::proofs::lemmas::Bool::Decides::nat_tests, crate::proofs::Laws::written, crate::proofs::Laws::halves, crate::proofs::Laws::half_back, crate::proofs::Laws::stage_laid), unfolding(crate::specs::Row::core_of, crate::specs::Row::core_by))]
 fn put_progress(s: &mut [u8; ROW], p: Progress)
     ensures { rule.core_of s.new ≡ setter.with_service (rule.core_of s.old) (setter.with_effort (rule.core_of s.old).service (setter.with_progress (rule.core_of s.old).service.effort p)) }
 {
-    length_known(s);
-    let stage = p.stage;
-    s[At::STAGE] = stage_byte(stage);
+    s[At::STAGE] = p.stage as u8;
     put_half(s, At::NEXT, p.at);
 }
 
-#[tactic(auto, using(std::proofs::lemmas::Bool::Decides::nat_tests, crate::proofs::Laws::written, crate::proofs::Laws::words, crate::proofs::Laws::word_back), unfolding(crate::specs::Row::core_of, crate::specs::Row::core_by))]
 fn put_counters(s: &mut [u8; ROW], c: Counters)
     ensures { rule.core_of s.new ≡ setter.with_service (rule.core_of s.old) (setter.with_effort (rule.core_of s.old).service (setter.with_counters (rule.core_of s.old).service.effort c)) }
 {
-    length_known(s);
     put_word(s, At::SLOTS, c.slots.0);
     put_word(s, At::LOST, c.lost.0);
     put_word(s, At::ERRORS, c.errors.0);
 }
 
-#[tactic(auto, using(std::proofs::lemmas::Bool::Decides::nat_tests, crate::proofs::Laws::writes, crate::proofs::Laws::written, crate::proofs::Laws::writes_long, crate::proofs::Laws::own_framed), unfolding(crate::specs::Row::core_of, crate::specs::Row::core_by))]
 fn put_effort(s: &mut [u8; ROW], e: Effort)
     ensures { rule.core_of s.new ≡ setter.with_service (rule.core_of s.old) (setter.with_effort (rule.core_of s.old).service e) }
 {
-    length_known(s);
     s[At::OWN_DATA] = e.frame.n;
     s[At::SETTING] = e.setting;
-    let b = e.frame.bytes;
-    put_frame(s, At::OWN, b);
+    put_frame(s, At::OWN, &e.frame.bytes);
     put_progress(s, e.progress);
     put_counters(s, e.counters);
 }
 
-#[tactic(auto, using(std::proofs::lemmas::Bool::Decides::nat_tests, crate::proofs::Laws::written, crate::proofs::Laws::flag_laid), unfolding(crate::specs::Row::core_of, crate::specs::Row::core_by))]
 fn put_service(s: &mut [u8; ROW], v: Service)
     ensures { rule.core_of s.new ≡ setter.with_service (rule.core_of s.old) v }
 {
-    length_known(s);
     s[At::CHANNEL] = v.channel;
-    s[At::ABORT] = bit(v.abort);
-    s[At::REAR] = bit(v.rear);
+    s[At::ABORT] = u8::from(v.abort);
+    s[At::REAR] = u8::from(v.rear);
     put_effort(s, v.effort);
 }
 
-#[tactic(auto, using(std::proofs::lemmas::Bool::Decides::nat_tests, crate::proofs::Laws::writes, crate::proofs::Laws::written, crate::proofs::Laws::writes_long, crate::proofs::Laws::halves, crate::proofs::Laws::half_back, crate::proofs::Laws::flag_laid, crate::proofs::Laws::reply_framed), unfolding(crate::specs::Row::core_of, crate::specs::Row::core_by))]
 fn put_reply(s: &mut [u8; ROW], y: ImmediateReply)
     ensures { rule.core_of s.new ≡ setter.with_reply (rule.core_of s.old) y }
 {
-    length_known(s);
-    s[At::GOING] = bit(y.going);
+    s[At::GOING] = u8::from(y.going);
     s[At::REPLY_CHANNEL] = y.channel;
     put_half(s, At::REPLY_NEXT, y.at);
     s[At::REPLY_DATA] = y.frame.n;
-    let b = y.frame.bytes;
-    put_frame(s, At::REPLY, b);
+    put_frame(s, At::REPLY, &y.frame.bytes);
 }
 
-#[tactic(auto, using(std::proofs::lemmas::Bool::Decides::nat_tests, crate::proofs::Laws::written, crate::proofs::Laws::words, crate::proofs::Laws::word_back, crate::proofs::Laws::flag_laid), unfolding(crate::specs::Row::core_of, crate::specs::Row::core_by))]
 fn put_period(s: &mut [u8; ROW], p: Period)
     ensures { rule.core_of s.new ≡ setter.with_diagnosis (rule.core_of s.old) (diagnosis_rule.with_period (rule.core_of s.old).diagnosis p) }
 {
-    length_known(s);
     put_word(s, At::PERIOD, p.slots);
     put_word(s, At::RXD1, p.rxd1);
     put_word(s, At::RXD2, p.rxd2);
     put_word(s, At::CONNECTED, p.connected);
-    s[At::FAILURE] = bit(p.failure);
+    s[At::FAILURE] = u8::from(p.failure);
 }
 
-#[tactic(auto, using(std::proofs::lemmas::Bool::Decides::nat_tests, crate::proofs::Laws::written, crate::proofs::Laws::words, crate::proofs::Laws::word_back, crate::proofs::Laws::flag_laid, crate::proofs::Laws::condition_laid), unfolding(crate::specs::Row::core_of, crate::specs::Row::core_by))]
 fn put_diagnosis(s: &mut [u8; ROW], x: Diagnosis)
     ensures { rule.core_of s.new ≡ setter.with_diagnosis (rule.core_of s.old) x }
 {
-    length_known(s);
-    let c = x.condition;
-    s[At::CONDITION] = condition_byte(c);
-    s[At::ALTERNATE] = bit(x.alternate);
-    s[At::SC] = bit(x.sc);
+    s[At::CONDITION] = x.condition as u8;
+    s[At::ALTERNATE] = u8::from(x.alternate);
+    s[At::SC] = u8::from(x.sc);
     s[At::LEVELS] = x.levels;
     put_word(s, At::DOMINANT, x.dominant);
     put_period(s, x.period);
 }
 
 // The row says the state.
-#[tactic(auto, using(std::proofs::lemmas::Bool::Decides::nat_tests))]
 pub fn put_core(s: &mut [u8; ROW], k: &Core)
     ensures { rule.core_of s.new ≡ k.now }
 {

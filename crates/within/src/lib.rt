@@ -1,4 +1,4 @@
-// The controller's calls over a lent memory map and a lent row, for C. Each answers what the step rule says; a refused call writes nothing (01, Numbers refused).
+// The controller's calls over a lent memory map and a lent row, for C. Each answers what the step rule says; a refused call writes nothing.
 #![tactic(auto)]
 
 ghost use Rattle.std.specs.Prelude.{◌≡◌};
@@ -13,18 +13,16 @@ use registers::Map;
 use rules::{Core, Event, Refusal};
 
 // A fresh controller, whatever was lent.
-#[tactic(auto, using(std::proofs::lemmas::Bool::Decides::nat_tests))]
 pub fn fresh(m: &mut [u8; 256], s: &mut [u8; row::ROW])
     ensures { answers.controller m.new (row_rule.core_of s.new) ≡ run.fresh }
 {
     let c = controller::fresh();
-    let memory = c.memory;
-    *m = memory;
+    *m = c.memory;
     row::put_core(s, &c.core);
 }
 
 // An event, by its call: the byte read, the level of TXD or 0; or why not.
-#[tactic(auto, using(std::proofs::lemmas::Bool::Decides::nat_tests), unfolding(rules::specs::Definitions::Run::step, rules::specs::Definitions::Answers::done, rules::specs::Definitions::Answers::lent, rules::specs::Definitions::Answers::refused_by, rules::specs::Definitions::Answers::value_of))]
+#[tactic(auto, unfolding(rules::specs::Definitions::Run::step, rules::specs::Definitions::Answers::done, rules::specs::Definitions::Answers::lent, rules::specs::Definitions::Answers::refused_by, rules::specs::Definitions::Answers::value_of))]
 fn take(m: &mut [u8; 256], k: &mut Core, e: Event) -> Result<u8, Refusal>
     ensures { answers.lent result (answers.controller m.new k.new) ≡ run.step (answers.controller m.old k.old) e }
 {
@@ -38,7 +36,7 @@ fn take(m: &mut [u8; 256], k: &mut Core, e: Event) -> Result<u8, Refusal>
 }
 
 // An event over the row: a refused one leaves map and row as they were.
-#[tactic(auto, using(std::proofs::lemmas::Bool::Decides::nat_tests, crate::proofs::Refusals::kept_map, crate::proofs::Refusals::kept_core, crate::proofs::Refusals::unchanged, crate::proofs::Refusals::not_refused))]
+#[tactic(auto, using(crate::proofs::Refusals::kept_map, crate::proofs::Refusals::kept_core, crate::proofs::Refusals::unchanged, crate::proofs::Refusals::not_refused))]
 pub fn call(m: &mut [u8; 256], s: &mut [u8; row::ROW], e: Event) -> Result<u8, Refusal>
     ensures answer { answers.lent result (answers.controller m.new (row_rule.core_of s.new)) ≡ run.step (answers.controller m.old (row_rule.core_of s.old)) e }
     ensures kept { rule.Unchanged (answers.refused_by result) m.old s.old m.new s.new }
@@ -50,7 +48,7 @@ pub fn call(m: &mut [u8; 256], s: &mut [u8; row::ROW], e: Event) -> Result<u8, R
 }
 
 // A host read: map and row lent for reading alone.
-#[tactic(auto, using(std::proofs::lemmas::Bool::Decides::nat_tests), unfolding(rules::specs::Definitions::Run::step))]
+#[tactic(auto, unfolding(rules::specs::Definitions::Run::step))]
 pub fn host_read(m: &[u8; 256], s: &[u8; row::ROW], address: u16) -> Result<u8, Refusal>
     ensures { answers.lent result (answers.controller m.now (row_rule.core_of s.now)) ≡ run.step (answers.controller m.now (row_rule.core_of s.now)) (event.Read address) }
 {
@@ -58,7 +56,7 @@ pub fn host_read(m: &[u8; 256], s: &[u8; row::ROW], address: u16) -> Result<u8, 
 }
 
 // The interrupt line.
-#[tactic(auto, using(std::proofs::lemmas::Bool::Decides::nat_tests), unfolding(rules::specs::Definitions::Host::interrupt_line, row::specs::Row::core_of, row::specs::Row::core_by))]
+#[tactic(auto, unfolding(rules::specs::Definitions::Host::interrupt_line, row::specs::Row::core_of, row::specs::Row::core_by))]
 pub fn interrupt(m: &[u8; 256], s: &[u8; row::ROW]) -> bool
     ensures { result ≡ host_rule.interrupt_line (answers.controller m.now (row_rule.core_of s.now)) }
 {

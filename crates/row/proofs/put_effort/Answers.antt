@@ -13,7 +13,7 @@ pub returns : goal.returns
 unfolding core_of core_by
 returns c =
     let a = c.args in
-    let n : length a.s.now ≡ 176 = c.length_known.ensures in
+    let n : length a.s.now ≡ 176 = c.told-s in
     let e = a.e in
     let ws : List (ℕ × ℕ) = (12, e.frame.n) ∷ (13, e.setting) ∷ [] in
     c.put_counters.ensures

@@ -10,6 +10,6 @@ pub returns : goal.returns
 unfolding core_of core_by
 returns c =
     let a = c.args in
-    let n : length a.s.now ≡ 176 = c.length_known.ensures in
-    written a.s.now ((62, c.bit.result) ∷ (5, a.l.count) ∷ []) n refl
-    ∙ (λ i. with_line (core_by (byte_at a.s.now)) (record { good = flag_laid _ _ c.bit.ensures i; count = a.l.count }))
+    let n : length a.s.now ≡ 176 = c.told-s in
+    written a.s.now ((62, c.from.result) ∷ (5, a.l.count) ∷ []) n refl
+    ∙ (λ i. with_line (core_by (byte_at a.s.now)) (record { good = flag_laid _ _ c.from.ensures i; count = a.l.count }))

@@ -15,14 +15,14 @@ pub returns : goal.returns
 unfolding core_of core_by
 returns c =
     let a = c.args in
-    let n : length a.s.now ≡ 176 = c.length_known.ensures in
+    let n : length a.s.now ≡ 176 = c.told-s in
     let p = a.p in
-    ap (λ (s : List ℕ). core_of (set s 73 c.bit.result))
+    ap (λ (s : List ℕ). core_of (set s 73 c.from.result))
     (c.put_word-4.ensures
     ∙ ap (λ (s : List ℕ). with_word s 34 p.connected)
     (c.put_word-3.ensures
     ∙ ap (λ (s : List ℕ). with_word s 30 p.rxd2) (c.put_word-2.ensures ∙ ap (λ (s : List ℕ). with_word s 26 p.rxd1) c.put_word.ensures)))
-    ∙ written a.s.now (words 42 p.slots (words 26 p.rxd1 (words 30 p.rxd2 (words 34 p.connected ((73, c.bit.result) ∷ []))))) n refl
+    ∙ written a.s.now (words 42 p.slots (words 26 p.rxd1 (words 30 p.rxd2 (words 34 p.connected ((73, c.from.result) ∷ []))))) n refl
     ∙ (λ i.
     with_diagnosis (core_by (byte_at a.s.now))
     (with_period (core_by (byte_at a.s.now)).diagnosis
@@ -31,5 +31,5 @@ returns c =
       rxd1 = word_back p.rxd1 i;
       rxd2 = word_back p.rxd2 i;
       connected = word_back p.connected i;
-      failure = flag_laid _ _ c.bit.ensures i;
+      failure = flag_laid _ _ c.from.ensures i;
     })))

@@ -14,7 +14,7 @@ pub returns : goal.returns
 unfolding core_of core_by
 returns c =
     let a = c.args in
-    let n : length a.s.now ≡ 176 = c.length_known.ensures in
+    let n : length a.s.now ≡ 176 = c.told-s in
     let r = a.r in
     let ws : List (ℕ × ℕ) = (7, r.nibbles) ∷ (8, r.bits) ∷ [] in
     c.put_winner.ensures

@@ -11,7 +11,7 @@ pub returns : goal.returns
 unfolding core_of core_by
 returns c =
     let a = c.args in
-    let n : length a.s.now ≡ 176 = c.length_known.ensures in
+    let n : length a.s.now ≡ 176 = c.told-s in
     let x = a.x in
     c.put_flags.ensures
     ∙ ap (λ (k : Core). with_report k (with_flags k.report x.flags))

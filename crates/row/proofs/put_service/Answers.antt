@@ -11,11 +11,11 @@ pub returns : goal.returns
 unfolding core_of core_by
 returns c =
     let a = c.args in
-    let n : length a.s.now ≡ 176 = c.length_known.ensures in
+    let n : length a.s.now ≡ 176 = c.told-s in
     let v = a.v in
     c.put_effort.ensures
     ∙ ap (λ (k : Core). with_service k (with_effort k.service v.effort))
-    (written a.s.now ((11, v.channel) ∷ (66, c.bit.result) ∷ (67, c.bit-2.result) ∷ []) n refl)
+    (written a.s.now ((11, v.channel) ∷ (66, c.from.result) ∷ (67, c.from-2.result) ∷ []) n refl)
     ∙ (λ i.
     with_service (core_by (byte_at a.s.now))
-    (record { channel = v.channel; abort = flag_laid _ _ c.bit.ensures i; rear = flag_laid _ _ c.bit-2.ensures i; effort = v.effort }))
+    (record { channel = v.channel; abort = flag_laid _ _ c.from.ensures i; rear = flag_laid _ _ c.from-2.ensures i; effort = v.effort }))

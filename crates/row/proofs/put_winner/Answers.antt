@@ -11,16 +11,16 @@ pub returns : goal.returns
 unfolding core_of core_by
 returns c =
     let a = c.args in
-    let n : length a.s.now ≡ 176 = c.length_known.ensures in
+    let n : length a.s.now ≡ 176 = c.told-s in
     let w = a.w in
-    written a.s.now ((64, c.bit.result) ∷ (9, w.channel) ∷ (65, c.bit-2.result) ∷ (17, w.pointer) ∷ (10, w.length) ∷ []) n refl
+    written a.s.now ((64, c.from.result) ∷ (9, w.channel) ∷ (65, c.from-2.result) ∷ (17, w.pointer) ∷ (10, w.length) ∷ []) n refl
     ∙ (λ i.
     with_reception (core_by (byte_at a.s.now))
     (with_winner (core_by (byte_at a.s.now)).reception
     (record {
-      matched = flag_laid _ _ c.bit.ensures i;
+      matched = flag_laid _ _ c.from.ensures i;
       channel = w.channel;
-      no_acknowledge = flag_laid _ _ c.bit-2.ensures i;
+      no_acknowledge = flag_laid _ _ c.from-2.ensures i;
       pointer = w.pointer;
       length = w.length;
     })))
