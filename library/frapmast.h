@@ -13,8 +13,8 @@
    - Every other argument may have any value. Nothing is kept between calls but what map and row hold, so threads may
      call at the same time, each with a map and a row of its own.
    - FRAPMAST_STACK bytes of stack are enough for any call. This is measured and not proved: library/stack.c finds about
-     3,800 bytes for play, 3,100 for slot, 2,600 for reset and for write, 2,400 for decode, and less than 1,000 for each
-     other call, at most. A loader that binds memcpy and memset at their first call takes up to 3,200 more there.
+     2,400 bytes for decode, 1,200 for play, and less than 1,000 for each other call, at most. A loader that binds memcpy
+     and memset at their first call takes up to 3,200 more there.
    The proof takes the first two, the fourth and the last for granted: Rattle's types have no null, no overlap and no third
    truth value, its proofs know no end of the stack, and nothing can test them from inside.
 
