@@ -208,6 +208,7 @@ fn frame_at(s: &[u8; ROW], at: usize) -> [u8; line::CODED_BYTES]
 }
 
 // Its length too: a proof of a caller does not know it of an array in a struct.
+#[inline(always)]
 #[tactic(auto, using(std::proofs::lemmas::Bool::Decides::nat_tests, crate::proofs::Laws::frame_put))]
 fn put_frame(s: &mut [u8; ROW], at: usize, b: &[u8; line::CODED_BYTES])
     requires { at ≤ 142 }
