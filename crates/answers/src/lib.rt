@@ -8,7 +8,7 @@ use rules::Refusal;
 
 // The number of the refusal, or 0.
 #[tactic(auto, unfolding(rules::specs::Definitions::Answers::refused_by))]
-pub fn refused_by(reply: Result<u8, Refusal>) -> u8
+pub fn refused_by<A: Copy>(reply: Result<A, Refusal>) -> u8
     ensures { result ≡ rule.refused_by reply }
 {
     reply.err().map_or(0, u8::from)

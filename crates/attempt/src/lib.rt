@@ -1,7 +1,7 @@
 // An attempt to send: its judgement slot by slot, and what it spends (01, Sending; 02, Req 01).
 #![tactic(auto)]
 
-ghost use Rattle.std.specs.Prelude.{◌≡◌, ◌<◌};
+ghost use Rattle.std.specs.Prelude.{◌≡◌, ℕ, ◌<◌};
 ghost use Rattle.rules.specs.Definitions.Attempt as rule;
 ghost use Rattle.rules.specs.Definitions.Service as service_rule;
 ghost use Rattle.rules.specs.Definitions.Mailbox as mailbox;
@@ -128,10 +128,11 @@ pub fn is_request(x: &Coded) -> bool
 // RTR's first half.
 const RTR_SLOT: u16 = 28;
 
-// What a sample in slot k of a frame that the model sends is for it: n data bytes, `low` its byte 1, d the level driven.
-#[tactic(auto, using(std::proofs::lemmas::Bool::Decides::nat_tests), unfolding(crate::specs::Level::judge_level, line::specs::Frame::size))]
+// What a sample in slot k of a frame that the model sends is for it: n data bytes, `low` its byte 1, d the level driven. Where it goes on, the next slot has its number.
+#[tactic(auto, using(std::proofs::lemmas::Bool::Decides::nat_tests, crate::proofs::Room::ends), unfolding(crate::specs::Level::judge_level, crate::specs::Following::following, line::specs::Frame::size))]
 pub fn judge_level(n: u8, low: u8, k: u16, d: u8, v: u8) -> Verdict
-    ensures { result ≡ level.judge_level n low k d v }
+    ensures value { result ≡ level.judge_level n low k d v }
+    ensures room { place.following result k < 65536 }
 {
     if v == due(n, low, k, d) {
         if u32::from(k) + 1 < 60 + 10 * u32::from(n) {
@@ -157,10 +158,11 @@ fn good_for(d: Delivery) -> Verdict
     }
 }
 
-// What a sample of the frame that answers it is for an attempt.
-#[tactic(auto, using(std::proofs::lemmas::Bool::Decides::nat_tests), unfolding(rules::specs::Definitions::Service::answered_as))]
+// What a sample of the frame that answers it is for an attempt. It never goes on as the model's own frame.
+#[tactic(auto, using(std::proofs::lemmas::Bool::Decides::nat_tests, crate::proofs::Room::good_room), unfolding(rules::specs::Definitions::Service::answered_as, crate::specs::Following::following))]
 pub fn answered_as(h: Hearing, d: Delivery) -> Verdict
-    ensures { result ≡ service_rule.answered_as h d }
+    ensures value { result ≡ service_rule.answered_as h d }
+    ensures room { (k : ℕ) → place.following result k < 65536 }
 {
     match h {
         Hearing::Silent | Hearing::Follows => Verdict::Answered,
@@ -206,15 +208,18 @@ fn go_on(e: &mut Effort, p: Progress)
     spend_slot(&mut e.counters);
 }
 
-// The effort after a sample that is w for the attempt: it goes on to its next slot, has ended, or is answered.
-#[tactic(auto, using(std::proofs::lemmas::Bool::Decides::nat_tests), unfolding(rules::specs::Definitions::Attempt::advance, crate::specs::Following::following))]
+// The effort after a sample that is w for the attempt: it goes on to its next slot, has ended, or is answered. The place stops at its largest; a place below that goes by the rule.
+#[tactic(auto, using(std::proofs::lemmas::Bool::Decides::nat_tests, crate::proofs::Room::advanced_is), unfolding(rules::specs::Definitions::Attempt::advance, crate::specs::Following::following, crate::specs::Following::next_place, crate::specs::Following::advanced))]
 pub fn advance(e: &mut Effort, w: Verdict)
-    requires { place.following w e.old.progress.at < 65536 }
-    ensures { e.new ≡ rule.advance w e.old }
+    ensures total { e.new ≡ place.advanced w e.old }
+    ensures ruled { place.following w e.old.progress.at < 65536 → e.new ≡ rule.advance w e.old }
 {
     match w {
         Verdict::Unjudged => {}
-        Verdict::Goes => go_on(e, stage::at_stage(Stage::Sending, e.progress.at + 1)),
+        Verdict::Goes => go_on(
+            e,
+            stage::at_stage(Stage::Sending, e.progress.at.saturating_add(1)),
+        ),
         Verdict::Lost => {
             e.progress = stage::at_stage(Stage::Waiting, 0);
             spend_lost(&mut e.counters);

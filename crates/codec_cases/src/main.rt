@@ -61,18 +61,22 @@ fn say_refused<W: Write>(out: &mut W, why: Refusal) -> io::Result<()> {
 
 fn say_slots<W: Write>(out: &mut W, s: &[u8]) -> io::Result<()> {
     for slot in s {
-        let level = *slot % 10;
-        write!(out, "{level}")?;
+        out.write_all(&[b'0' + *slot % 10])?;
     }
     Ok(())
 }
+
+// The digits of a number in hexadecimal.
+const DIGITS: &[u8; 16] = b"0123456789ABCDEF";
 
 fn say_bytes<W: Write>(out: &mut W, s: &[u8]) -> io::Result<()> {
     if s.is_empty() {
         return write!(out, "-");
     }
     for byte in s {
-        write!(out, "{byte:02X}")?;
+        let high = DIGITS[usize::from(*byte / 16)];
+        let low = DIGITS[usize::from(*byte % 16)];
+        out.write_all(&[high, low])?;
     }
     Ok(())
 }
@@ -117,10 +121,12 @@ fn decode_case<W: Write>(out: &mut W, s: &[u8]) -> io::Result<()> {
 fn say_frame<W: Write>(out: &mut W, head: Head, data: &[u8]) -> io::Result<()> {
     let identifier = head.identifier;
     let command = head.command;
-    let acknowledge = u8::from(head.acknowledge);
     write!(out, "{identifier} {command} ")?;
     say_bytes(out, data.get(..usize::from(head.count)).unwrap_or(&[]))?;
-    write!(out, " {acknowledge}")
+    if head.acknowledge {
+        return out.write_all(b" 1");
+    }
+    out.write_all(b" 0")
 }
 
 // captured IDENTIFIER COMMAND DATA: the check that stands in the encoded frame, followed by a zero bit

@@ -93,25 +93,37 @@ fn play_events<W: Write>(out: &mut W, events: Events<'_>, count: u16) -> io::Res
     writeln!(out, "end {count}")
 }
 
-// An event, with its line. A mark has no effect.
+// Room for the line of an event: the longest has 28 bytes.
+const LINE: usize = 32;
+
+// An event, with its line, which is written at once. A mark has no effect.
 fn play_event<W: Write>(out: &mut W, c: &mut Controller, n: usize, e: Event) -> io::Result<()> {
+    // fixed memory: no program allocates
+    let mut room = [0u8; LINE];
+    let mut rest = &mut room[..];
+    put_event(&mut rest, c, n, e)?;
+    let length = LINE.saturating_sub(rest.len());
+    out.write_all(&room[..length])
+}
+
+fn put_event<W: Write>(line: &mut W, c: &mut Controller, n: usize, e: Event) -> io::Result<()> {
     match e {
         Event::Reset => {
             let answer = Answer::Done(controller::pin_reset(c));
-            writeln!(out, "{n} reset{answer}")
+            writeln!(line, "{n} reset{answer}")
         }
         Event::Write(address, value) => {
             let answer = Answer::Done(controller::host_write(c, address, value));
-            writeln!(out, "{n} write {address:02X}{answer}")
+            writeln!(line, "{n} write {address:02X}{answer}")
         }
         Event::Read(address) => {
             let answer = Answer::Byte(controller::host_read(c, address));
-            writeln!(out, "{n} read {address:02X}{answer}")
+            writeln!(line, "{n} read {address:02X}{answer}")
         }
         Event::Slot(levels) => {
             let answer = Answer::Level(controller::slot(c, levels));
-            writeln!(out, "{n} slot {levels}{answer}")
+            writeln!(line, "{n} slot {levels}{answer}")
         }
-        Event::Mark(v) => writeln!(out, "{n} mark {v}"),
+        Event::Mark(v) => writeln!(line, "{n} mark {v}"),
     }
 }

@@ -12,8 +12,6 @@ ghost use Rattle.row.specs.Row as row_rule;
 ghost use Rattle.within.specs.Lent as lent;
 ghost use Rattle.frapmast.specs.Calls as rule;
 
-use rules::Event;
-
 // The frame's slots, into lent room, and how many; or the refusal's number.
 #[unsafe(no_mangle)]
 #[tactic(auto, unfolding(crate::specs::Calls::encode_number, crate::specs::Calls::slot_count))]
@@ -104,7 +102,7 @@ pub extern "C" fn frapmast_reset(map: &mut [u8; 256], row: &mut [u8; row::ROW]) 
     ensures state { answers.controller map.new (row_rule.core_of row.new) ≡ (run.step (answers.controller map.old (row_rule.core_of row.old)) event.Reset).next }
     ensures kept { lent.Unchanged result map.old row.old map.new row.new }
 {
-    answers::refused_by(within::call(map, row, Event::Reset))
+    answers::refused_by(within::pin_reset(map, row))
 }
 
 // A host write: the refusal's number or 0.
@@ -120,7 +118,7 @@ pub extern "C" fn frapmast_write(
     ensures state { answers.controller map.new (row_rule.core_of row.new) ≡ (run.step (answers.controller map.old (row_rule.core_of row.old)) (event.Write address value)).next }
     ensures kept { lent.Unchanged result map.old row.old map.new row.new }
 {
-    answers::refused_by(within::call(map, row, Event::Write(address, value)))
+    answers::refused_by(within::host_write(map, row, address, value))
 }
 
 // A host read: the refusal's number or 0, and the byte read or 0.
@@ -154,7 +152,7 @@ pub extern "C" fn frapmast_slot(
     ensures state { answers.controller map.new (row_rule.core_of row.new) ≡ (run.step (answers.controller map.old (row_rule.core_of row.old)) (event.Slot levels)).next }
     ensures kept { lent.Unchanged result map.old row.old map.new row.new }
 {
-    let a = within::call(map, row, Event::Slot(levels));
+    let a = within::slot(map, row, levels);
     *level = answers::value_of(a);
     answers::refused_by(a)
 }

@@ -6,6 +6,7 @@ ghost use Rattle.rules.specs.Definitions.Host as rule;
 ghost use Rattle.rules.specs.Definitions.State as state_rule;
 ghost use Rattle.rules.specs.Definitions.Run as run;
 ghost use Rattle.rules.specs.Definitions.Answers as answers;
+ghost use Rattle.access.specs.Open as behind;
 ghost use Rattle.host.specs.Plain as plain_rule;
 
 use registers::Map;
@@ -61,16 +62,16 @@ fn write(m: &mut [u8; 256], k: &mut Core, address: u16, v: u8)
     command::host_written(m, k, address as usize, v);
 }
 
-// A host write to a state in its ranges: 7, 1, 2, 3, 8.
-#[tactic(auto, using(std::proofs::lemmas::Bool::Decides::nat_tests, access::proofs::Opened::opened, access::proofs::Opened::refused_open, rules::proofs::Refusals::accepted, rules::proofs::Refusals::refused_first, rules::proofs::Refusals::refused_second), unfolding(rules::specs::Definitions::Answers::done, rules::specs::Definitions::Answers::refused_by, rules::specs::Definitions::Run::host_write, rules::specs::Definitions::Run::accept, rules::specs::Definitions::Run::refuse))]
+// A host write behind number 6: 7, 1, 2, 3, 8. To a state in its ranges it is the host write.
+#[tactic(auto, using(std::proofs::lemmas::Bool::Decides::nat_tests, access::proofs::Opened::opened, access::proofs::Opened::refused_open, rules::proofs::Refusals::accepted, rules::proofs::Refusals::refused_first, rules::proofs::Refusals::refused_second), unfolding(rules::specs::Definitions::Answers::done, rules::specs::Definitions::Answers::refused_by, rules::specs::Definitions::Run::host_write, rules::specs::Definitions::Run::accept, rules::specs::Definitions::Run::refuse, access::specs::Open::write_open))]
 pub fn host_write_in_range(
     m: &mut [u8; 256],
     k: &mut Core,
     address: u16,
     value: u16,
 ) -> Result<(), Refusal>
-    requires range { state_rule.in_range (answers.controller m.old k.old) ≡ true }
-    ensures { answers.done result (answers.controller m.new k.new) ≡ run.host_write (answers.controller m.old k.old) address value }
+    ensures total { answers.done result (answers.controller m.new k.new) ≡ behind.write_open (answers.controller m.old k.old) address value }
+    ensures ruled { state_rule.in_range (answers.controller m.old k.old) ≡ true → answers.done result (answers.controller m.new k.new) ≡ run.host_write (answers.controller m.old k.old) address value }
 {
     access::open(k, address)?;
     writable(address, value)?;

@@ -6,6 +6,7 @@ ghost use Rattle.rules.specs.Definitions.Host as rule;
 ghost use Rattle.rules.specs.Definitions.State as state_rule;
 ghost use Rattle.rules.specs.Definitions.Run as run;
 ghost use Rattle.rules.specs.Definitions.Answers as answers;
+ghost use Rattle.access.specs.Open as behind;
 
 use registers::Map;
 use rules::{Core, Refusal};
@@ -66,11 +67,11 @@ fn readable(address: u16) -> Result<(), Refusal>
     Ok(())
 }
 
-// A host read of a state in its ranges: 7, 1, 4.
-#[tactic(auto, using(std::proofs::lemmas::Bool::Decides::nat_tests, access::proofs::Opened::opened, access::proofs::Opened::refused_open, rules::proofs::Refusals::accepted, rules::proofs::Refusals::refused_first, rules::proofs::Refusals::refused_second), unfolding(rules::specs::Definitions::Answers::lent, rules::specs::Definitions::Answers::refused_by, rules::specs::Definitions::Answers::value_of, rules::specs::Definitions::Run::host_read, rules::specs::Definitions::Run::accept, rules::specs::Definitions::Run::refuse))]
+// A host read behind number 6: 7, 1, 4. Of a state in its ranges it is the host read.
+#[tactic(auto, using(std::proofs::lemmas::Bool::Decides::nat_tests, access::proofs::Opened::opened, access::proofs::Opened::refused_open, rules::proofs::Refusals::accepted, rules::proofs::Refusals::refused_first, rules::proofs::Refusals::refused_second), unfolding(rules::specs::Definitions::Answers::lent, rules::specs::Definitions::Answers::refused_by, rules::specs::Definitions::Answers::value_of, rules::specs::Definitions::Run::host_read, rules::specs::Definitions::Run::accept, rules::specs::Definitions::Run::refuse, access::specs::Open::read_open))]
 pub fn host_read_in_range(m: &[u8; 256], k: &Core, address: u16) -> Result<u8, Refusal>
-    requires range { state_rule.in_range (answers.controller m.now k.now) ≡ true }
-    ensures { answers.lent result (answers.controller m.now k.now) ≡ run.host_read (answers.controller m.now k.now) address }
+    ensures total { answers.lent result (answers.controller m.now k.now) ≡ behind.read_open (answers.controller m.now k.now) address }
+    ensures ruled { state_rule.in_range (answers.controller m.now k.now) ≡ true → answers.lent result (answers.controller m.now k.now) ≡ run.host_read (answers.controller m.now k.now) address }
 {
     access::open(k, address)?;
     readable(address)?;

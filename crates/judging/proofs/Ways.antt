@@ -1,5 +1,5 @@
 -- The ordinary slot touches neither map nor registers; the sample is judged by who sends.
-use Prim.Native.Nat.{ℕ}
+use Prim.Native.Nat.{ℕ, ◌<◌}
 use mathlib.Core.Bool.{true, false≢true}
 use mathlib.Core.List.{List}
 use mathlib.Core.Path.{◌≡◌, refl}
@@ -7,7 +7,7 @@ use Rattle.line.proofs.Laws.{pick_same}
 use Rattle.rules.specs.Definitions.Setters.{with_effort, with_service}
 use Rattle.rules.specs.Definitions.Attempt.{advance, at_stage, between_attempts, is_between}
 use Rattle.rules.specs.Definitions.Delivery.{delivery_of, delivery_to, memory_delivered, report_heard, report_delivered}
-use Rattle.rules.specs.Definitions.Service.{stopped, ending_of, settled, memory_ended, report_judged, report_ended, fulfils, memory_replied, report_replied, hear_own, receives}
+use Rattle.rules.specs.Definitions.Service.{stopped, ending_of, settled, memory_ended, report_judged, report_ended, fulfils, replied, reply_moved, memory_replied, report_replied, hear_own, receives}
 use Rattle.rules.specs.Definitions.Slots.{role_in, verdict_as, verdict, reply_verdict, reply_after, heard_as, heard, delivers, service_judged, ending, memory_judged, report_after}
 use Rattle.rules.specs.declared.Role.{Role}
 use Rattle.rules.specs.declared.Role.TheVariants.{Nobody, Receiver, Sender, Asker, Replier}
@@ -20,9 +20,12 @@ use Rattle.rules.specs.declared.Ending.{Ending}
 use Rattle.rules.specs.declared.Ending.TheVariants.{Going, Sent, Exhausted, Aborted, Rearbitrated, Fulfilled}
 use Rattle.rules.specs.declared.Reception.{Reception}
 use Rattle.rules.specs.declared.Effort.{Effort}
+use Rattle.rules.specs.declared.ImmediateReply.{ImmediateReply}
 use Rattle.rules.specs.declared.Report.{Report}
 use Rattle.rules.specs.declared.Service.{Service}
 use Rattle.rules.specs.declared.Core.{Core}
+use Rattle.attempt.specs.Following.{following}
+use Rattle.attempt.proofs.Room.{next_is}
 use Rattle.judging.specs.Judged as judged
 use Rattle.judging.specs.Judged.{hears, tried, effected}
 use Rattle.judging.specs.Ordinary.{passes, goes, stays, Marks}
@@ -166,3 +169,13 @@ reply_after_is Receiver m k q r = refl
 reply_after_is Sender m k q r = refl
 reply_after_is Asker m k q r = refl
 reply_after_is Replier m k q r = refl
+
+-- where the next slot of the reply has its number
+pub moved_is : (q : Verdict) (y : ImmediateReply) → following q y.at < 65536 → judged.reply_moved q y ≡ replied q y
+unfolding judged.reply_moved replied reply_moved following
+moved_is Unjudged y h = refl
+moved_is Goes y h = rw (next_is y.at h)
+moved_is Lost y h = refl
+moved_is (Failed code) y h = refl
+moved_is Done y h = refl
+moved_is Answered y h = refl

@@ -1,6 +1,6 @@
 -- What a sample is, by what the model is in the frame under way, from the parts of the state that decide it.
 --   hears == for the line, but for a frame of the model's own        tried, reply_verdict == for the attempt, for the reply        heard == for the line
---   reply_after == the reply after the sample        effected == the state with the sample's effect on registers and service
+--   reply_after == the reply after the sample        reply_left == the same in 16 bits, where its place stops at its largest        effected == the state with the sample's effect on registers and service
 use Rattle.std.specs.Prelude.{ℕ, List}
 use Rattle.line.specs.Bits.{pick}
 use Rattle.rules.specs.Definitions.Longest.{capacity}
@@ -8,7 +8,7 @@ use Rattle.rules.specs.Definitions.Reception.{reads_asked}
 use Rattle.rules.specs.Definitions.Hearing.{hear_frame, hear_quiet}
 use Rattle.rules.specs.Definitions.Delivery.{delivery_of}
 use Rattle.rules.specs.Definitions.Attempt.{judge_slot}
-use Rattle.rules.specs.Definitions.Service.{receives, answered_as, judge_reply, replied, reply_taken, hear_own, settled}
+use Rattle.rules.specs.Definitions.Service.{receives, answered_as, judge_reply, replied, reply_taken, no_reply, hear_own, settled}
 use Rattle.rules.specs.Definitions.Setters.{with_report, with_service}
 use Rattle.rules.specs.Definitions.Slots.{service_judged, ending, report_after}
 use Rattle.rules.specs.declared.Core.{Core}
@@ -18,9 +18,10 @@ use Rattle.rules.specs.declared.Hearing.{Hearing}
 use Rattle.rules.specs.declared.Effort.{Effort}
 use Rattle.rules.specs.declared.ImmediateReply.{ImmediateReply}
 use Rattle.rules.specs.declared.Verdict.{Verdict}
-use Rattle.rules.specs.declared.Verdict.TheVariants.{Unjudged}
+use Rattle.rules.specs.declared.Verdict.TheVariants.{Unjudged, Goes, Lost, Failed, Done, Answered}
 use Rattle.rules.specs.declared.Role.{Role}
 use Rattle.rules.specs.declared.Role.TheVariants.{Nobody, Receiver, Sender, Asker, Replier}
+use Rattle.attempt.specs.Following.{next_place}
 
 unfoldable pub hears : Role → Reception → Line → ℕ → Hearing
 hears x r l v = pick (receives x) (hear_frame r capacity v) (hear_quiet l v)
@@ -55,6 +56,22 @@ reply_after Receiver m y q r = pick (reads_asked r) (reply_taken m capacity r) y
 reply_after Sender m y q r = y
 reply_after Asker m y q r = y
 reply_after Replier m y q r = replied q y
+
+-- the reply goes on, or it has ended
+unfoldable pub reply_moved : Verdict → ImmediateReply → ImmediateReply
+reply_moved Unjudged y = y
+reply_moved Goes y = record { going = y.going; channel = y.channel; at = next_place y.at; frame = y.frame }
+reply_moved Lost y = no_reply
+reply_moved (Failed code) y = no_reply
+reply_moved Done y = no_reply
+reply_moved Answered y = no_reply
+
+unfoldable pub reply_left : Role → List ℕ → ImmediateReply → Verdict → Reception → ImmediateReply
+reply_left Nobody m y q r = y
+reply_left Receiver m y q r = pick (reads_asked r) (reply_taken m capacity r) y
+reply_left Sender m y q r = y
+reply_left Asker m y q r = y
+reply_left Replier m y q r = reply_moved q y
 
 -- q is what the sample is for the reply
 unfoldable pub effected : Core → Verdict → Verdict → Hearing → Core

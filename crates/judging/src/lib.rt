@@ -66,7 +66,7 @@ fn hears(x: Role, r: &Reception, l: Line, v: u8) -> Hearing
 }
 
 // Slot k of a frame that the model sends; the next has its number.
-#[tactic(auto, using(std::proofs::lemmas::Bool::Decides::nat_tests, attempt::proofs::Room::room, attempt::proofs::Level::level_judged))]
+#[tactic(auto, using(std::proofs::lemmas::Bool::Decides::nat_tests, attempt::proofs::Level::level_judged))]
 pub fn judge_slot(f: &Coded, k: u16, v: u8) -> Verdict
     ensures value { result ≡ sending.judge_slot f.now k v }
     ensures room { behind.following result k < 65536 }
@@ -75,7 +75,7 @@ pub fn judge_slot(f: &Coded, k: u16, v: u8) -> Verdict
 }
 
 // For the attempt under way; h is what the sample is for another module's frame.
-#[tactic(auto, using(std::proofs::lemmas::Bool::Decides::nat_tests, attempt::proofs::Room::awaited_room), unfolding(crate::specs::Judged::tried, attempt::specs::Following::following))]
+#[tactic(auto, using(std::proofs::lemmas::Bool::Decides::nat_tests), unfolding(crate::specs::Judged::tried, attempt::specs::Following::following))]
 fn tried(x: Role, e: &Effort, h: Hearing, r: &Reception, v: u8) -> Verdict
     ensures value { result ≡ judged.tried x e.now h r.now v }
     ensures room { behind.following result e.now.progress.at < 65536 }
@@ -209,26 +209,25 @@ fn reply_taken(m: &[u8; 256], r: &Reception) -> ImmediateReply
 }
 
 // The reply goes on, or it has ended.
-#[tactic(auto, using(std::proofs::lemmas::Bool::Decides::nat_tests), unfolding(rules::specs::Definitions::Service::replied, rules::specs::Definitions::Service::reply_moved, attempt::specs::Following::following))]
+#[tactic(auto, using(std::proofs::lemmas::Bool::Decides::nat_tests), unfolding(crate::specs::Judged::reply_moved, attempt::specs::Following::next_place))]
 fn move_reply(y: &mut ImmediateReply, q: Verdict)
-    requires { behind.following q y.old.at < 65536 }
-    ensures { y.new ≡ service_rule.replied q y.old }
+    ensures { y.new ≡ judged.reply_moved q y.old }
 {
     match q {
         Verdict::Unjudged => {}
-        Verdict::Goes => y.at += 1,
+        Verdict::Goes => y.at = y.at.saturating_add(1),
         Verdict::Lost | Verdict::Failed(_) | Verdict::Done | Verdict::Answered => {
             *y = state::no_reply();
         }
     }
 }
 
-// Taken in the R/W slot of another module's frame; q is what the sample is for the reply, r the frame after it.
-#[tactic(auto, using(std::proofs::lemmas::Bool::Decides::nat_tests), unfolding(crate::specs::Judged::reply_after))]
+// Taken in the R/W slot of another module's frame; q is what the sample is for the reply, r the frame after it. The place stops at its largest; a place below that goes by the rule.
+#[tactic(auto, using(std::proofs::lemmas::Bool::Decides::nat_tests, crate::proofs::Ways::moved_is), unfolding(crate::specs::Judged::reply_left, crate::specs::Judged::reply_after))]
 #[inline(always)]
 pub fn take_reply(y: &mut ImmediateReply, x: Role, m: &[u8; 256], q: Verdict, r: &Reception)
-    requires { behind.following q y.old.at < 65536 }
-    ensures { y.new ≡ judged.reply_after x m.now y.old q r.now }
+    ensures total { y.new ≡ judged.reply_left x m.now y.old q r.now }
+    ensures ruled { behind.following q y.old.at < 65536 → y.new ≡ judged.reply_after x m.now y.old q r.now }
 {
     match x {
         Role::Receiver => {

@@ -96,6 +96,10 @@ more_groups : (k m n : ℕ) → m ≤ n → length (groups_of k m) ≤ length (g
 more_groups zero m n h = no_groups m n
 more_groups (suc k) m n h = one_group_more k m n h (more_groups k (m / 128) (n / 128) (omega arith))
 
+pub uleb128_some : (n : ℕ) → 1 ≤ length (uleb128 n)
+unfolding uleb128
+uleb128_some n = some_groups 2 n
+
 pub uleb128_most : (n : ℕ) → length (uleb128 n) ≤ 3
 unfolding uleb128
 uleb128_most n = most_groups 3 n

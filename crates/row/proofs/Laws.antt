@@ -11,7 +11,7 @@ use lib.Dec.{eqb, ltb, leb}
 use lib.ListN.{get_or, set, length, length-set, take, drop}
 use lib.Seq.{sets, sets-eq, get_or-set_same, get_or-set_other, drop-cons}
 use borrow.Rule.Slice.PartMut.{put_mid}
-use borrow.Author.Tests.{eqb-true, eqb-false, ltb-true, ltb-false, leb-true, leb-false}
+use borrow.Author.Tests.{eqb-true, eqb-false, ltb-true, ltb-false, leb-true, leb-false, eq-eqb, ne_eqb}
 use mir.Val.{bool_byte}
 use denote.Enum.Declared.{tag_of}
 use Rattle.rules.specs.contracts.Mode.{the_type as the_mode}
@@ -254,3 +254,44 @@ word_put s ys at k x e d f h =
     let b : x / 16777216 % 256 ≡ x / 16777216 = omega (arith, f) in
     laid 4 s (to_le_bytes w32 x) ys at k e d refl h
     ∙ (λ i. set (set (set (set s at (x % 256)) (p i) (x / 256 % 256)) (q i) (x / 65536 % 256)) (r i) (b i))
+
+-- ---- one byte of the frame under way
+
+eqb_same : (n : ℕ) → eqb n n ≡ true
+eqb_same n = eq-eqb n n refl
+
+unaffected : (n : ℕ) (byte : ℕ → ℕ) (at k b : ℕ) → k < at → bytes_from n (changed byte k b) at ≡ bytes_from n byte at
+unaffected zero byte at k b h = refl
+unaffected (suc n) byte at k b h =
+    rw (ne_eqb k at (λ q. absurd (omega (arith, h, q)))) (ap (λ (l : List ℕ). byte at ∷ l) (unaffected n byte (at + 1) k b (omega (arith, h))))
+
+bytes_changed : (n : ℕ) (byte : ℕ → ℕ) (at i b : ℕ) → i < n → bytes_from n (changed byte (at + i) b) at ≡ set (bytes_from n byte at) i b
+bytes_changed zero byte at i b h = absurd (omega (arith, h))
+bytes_changed (suc n) byte at zero b h =
+    rw (add-zero at, eqb_same at) (ap (λ (l : List ℕ). b ∷ l) (unaffected n byte (at + 1) at b (omega arith)))
+bytes_changed (suc n) byte at (suc i) b h =
+    let e : at + suc i ≡ at + 1 + i = omega arith in
+    rw (ne_eqb (at + suc i) at (λ q. absurd (omega (arith, q))), e) (ap (λ (l : List ℕ). byte at ∷ l) (bytes_changed n byte (at + 1) i b (omega (arith, h))))
+
+abbrev within : (ℕ → ℕ) → (ℕ → ℕ) → ℕ → ℕ
+within inner byte j = pick (both (leb 74 j) (ltb j 108)) (inner j) (byte j)
+
+heard_alone : (byte : ℕ → ℕ) (i b : ℕ) → i < 34 → changed byte (74 + i) b ≡ within (changed byte (74 + i) b) byte
+heard_alone byte i b h = fun_ext (λ j. go j (leb 74 j) (ltb j 108) refl refl) where
+  go : (j : ℕ) (p q : Bool) → leb 74 j ≡ p → ltb j 108 ≡ q → changed byte (74 + i) b j ≡ pick (both p q) (changed byte (74 + i) b j) (byte j)
+  go j true true e d = refl
+  go j true false e d = let v = ltb-false j 108 d in rw (ne_eqb (74 + i) j (λ r. absurd (omega (arith, h, v, r))))
+  go j false q e d = let u = leb-false 74 j e in rw (ne_eqb (74 + i) j (λ r. absurd (omega (arith, u, r))))
+
+pub heard_byte : (s : List ℕ) (i b : ℕ) → length s ≡ 176 → i < 34 →
+    core_of (set s (74 + i) b) ≡ with_reception (core_of s) (with_bytes (core_of s).reception (set (core_of s).reception.bytes i b))
+unfolding core_of core_by
+heard_byte s i b n h =
+    ap core_by (set_changes s (74 + i) b (omega (arith, n, h)) ∙ heard_alone (byte_at s) i b h)
+    ∙ ap (λ (l : List ℕ). with_reception (core_by (byte_at s)) (with_bytes (core_by (byte_at s)).reception l)) (bytes_changed 34 (byte_at s) 74 i b h)
+
+-- a byte of a frame
+pub byte_of : (n : ℕ) (byte : ℕ → ℕ) (at i : ℕ) → i < n → get_or (bytes_from n byte at) i 0 ≡ byte (at + i)
+byte_of zero byte at i h = absurd (omega (arith, h))
+byte_of (suc n) byte at zero h = rw (add-zero at)
+byte_of (suc n) byte at (suc i) h = let e : at + suc i ≡ at + 1 + i = omega arith in rw e (byte_of n byte (at + 1) i (omega (arith, h)))

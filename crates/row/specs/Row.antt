@@ -4,6 +4,7 @@
 use Rattle.std.specs.Prelude.{ℕ, zero, suc, ◌+◌, ◌*◌, Bool, List, [], ◌∷◌, eqb, get_or}
 use Rattle.line.specs.Bits.{pick}
 use Rattle.rules.specs.Definitions.Longest.{capacity}
+use Rattle.rules.specs.Definitions.Setters.{with_slots, with_counters, with_effort}
 use Rattle.row.specs.Places as place
 use Rattle.diagnosis.specs.declared.Condition.{Condition}
 use Rattle.diagnosis.specs.declared.Condition.TheVariants.{Nominal, DegradedOnData, DegradedOnDataBar, MajorError}
@@ -165,3 +166,15 @@ core_by byte =
 
 unfoldable pub core_of : List ℕ → Core
 core_of s = core_by (byte_at s)
+
+-- ---- a struct anew, but for what is named
+
+abbrev pub with_count : Line → ℕ → Line
+with_count l n = record { good = l.good; count = n }
+
+abbrev pub with_spent : Service → ℕ → Service
+with_spent s n = with_effort s (with_counters s.effort (with_slots s.effort.counters (record { 0 = n })))
+
+abbrev pub with_watched : Diagnosis → Bool → ℕ → ℕ → Diagnosis
+with_watched x sc levels dominant =
+    record { condition = x.condition; alternate = x.alternate; sc = sc; levels = levels; dominant = dominant; period = x.period }

@@ -1,15 +1,21 @@
 // The state but for the memory map as a lent row of bytes: where each number stands, the state that a row says, and the row of a state (docs/STATE.md).
 #![tactic(auto)]
 
-ghost use Rattle.std.specs.Prelude.{◌≡◌, ◌≤◌, ◌<◌, length};
+ghost use Rattle.std.specs.Prelude.{◌≡◌, ◌-◌, ◌%◌, ◌≤◌, ◌<◌, leb, length, set, get_or};
+ghost use Rattle.diagnosis.specs.Control as control_rule;
 ghost use Rattle.diagnosis.specs.Rules as diagnosis_rule;
 ghost use Rattle.rules.specs.Definitions.Setters as setter;
+ghost use Rattle.rules.specs.Definitions.Registers as register_rule;
+ghost use Rattle.rules.specs.Definitions.State as state_rule;
+ghost use Rattle.rules.specs.Definitions.Answers as answers;
 ghost use Rattle.rules.specs.Definitions.Reception as reception_rule;
 ghost use Rattle.row.specs.Row as rule;
+ghost use Rattle.row.specs.Places as place;
 ghost use Rattle.row.specs.Bytes as bytes;
 ghost use Rattle.std.proofs.lemmas.List.Edits.{sets};
 
 use diagnosis::{Condition, Diagnosis, Period};
+use registers::Map;
 use rules::{
     Activity, Attempts, Coded, Core, Counters, Effort, Flags, ImmediateReply, Line, Mode, Phase,
     Place, Progress, Reception, Report, Retries, Service, Stage, Timeslots, Winner,
@@ -20,140 +26,140 @@ pub const ROW: usize = 176;
 
 // The place of each number. A number of 16 or 32 bits stands low byte first, a frame byte after byte.
 #[derive(Clone, Copy)]
-struct At {}
+pub struct At {}
 
 impl At {
     // Retries and channel of 0x05.
-    const SENDING: usize = 0;
+    pub const SENDING: usize = 0;
 
     // And of 0x06.
-    const MESSAGE: usize = 2;
+    pub const MESSAGE: usize = 2;
 
     // 0x07.
-    const ERROR: usize = 4;
+    pub const ERROR: usize = 4;
 
     // Recessive slots in a row.
-    const COUNT: usize = 5;
+    pub const COUNT: usize = 5;
 
     // The slot of the phase.
-    const SLOT: usize = 6;
+    pub const SLOT: usize = 6;
 
     // Whole nibbles taken.
-    const NIBBLES: usize = 7;
+    pub const NIBBLES: usize = 7;
 
     // Bits of the nibble under way.
-    const BITS: usize = 8;
+    pub const BITS: usize = 8;
 
     // The channel that takes the frame.
-    const WINNER_CHANNEL: usize = 9;
+    pub const WINNER_CHANNEL: usize = 9;
 
     // Its M_L.
-    const LENGTH: usize = 10;
+    pub const LENGTH: usize = 10;
 
     // The channel of the service.
-    const CHANNEL: usize = 11;
+    pub const CHANNEL: usize = 11;
 
     // Data bytes of the frame to be sent.
-    const OWN_DATA: usize = 12;
+    pub const OWN_DATA: usize = 12;
 
     // MR.
-    const SETTING: usize = 13;
+    pub const SETTING: usize = 13;
 
     // The channel of the reply.
-    const REPLY_CHANNEL: usize = 14;
+    pub const REPLY_CHANNEL: usize = 14;
 
     // Data bytes of the reply.
-    const REPLY_DATA: usize = 15;
+    pub const REPLY_DATA: usize = 15;
 
     // The levels of the last slot.
-    const LEVELS: usize = 16;
+    pub const LEVELS: usize = 16;
 
     // The pointer of the channel that takes the frame.
-    const POINTER: usize = 17;
+    pub const POINTER: usize = 17;
 
     // Attempts that failed.
-    const ERRORS: usize = 18;
+    pub const ERRORS: usize = 18;
 
     // Dominant slots in a row.
-    const DOMINANT: usize = 22;
+    pub const DOMINANT: usize = 22;
 
     // Edges on RxD1.
-    const RXD1: usize = 26;
+    pub const RXD1: usize = 26;
 
     // Edges on RxD2.
-    const RXD2: usize = 30;
+    pub const RXD2: usize = 30;
 
     // Edges on the input connected.
-    const CONNECTED: usize = 34;
+    pub const CONNECTED: usize = 34;
 
     // The slot of the frame that is driven next.
-    const NEXT: usize = 38;
+    pub const NEXT: usize = 38;
 
     // The slot of the reply that is driven next.
-    const REPLY_NEXT: usize = 40;
+    pub const REPLY_NEXT: usize = 40;
 
     // Slots of the SDC period.
-    const PERIOD: usize = 42;
+    pub const PERIOD: usize = 42;
 
     // Slots of attempts.
-    const SLOTS: usize = 46;
+    pub const SLOTS: usize = 46;
 
     // Attempts lost.
-    const LOST: usize = 50;
+    pub const LOST: usize = 50;
 
     // The mode.
-    const MODE: usize = 54;
+    pub const MODE: usize = 54;
 
     // An idle waits.
-    const WAITING: usize = 55;
+    pub const WAITING: usize = 55;
 
     // RST, TE, TOK, RE, ROK, RNOK.
-    const FLAGS: usize = 56;
+    pub const FLAGS: usize = 56;
 
     // A good frame came last.
-    const GOOD: usize = 62;
+    pub const GOOD: usize = 62;
 
     // The phase of the frame under way.
-    const PHASE: usize = 63;
+    pub const PHASE: usize = 63;
 
     // A channel takes the frame.
-    const MATCHED: usize = 64;
+    pub const MATCHED: usize = 64;
 
     // With DRAK.
-    const NO_ACKNOWLEDGE: usize = 65;
+    pub const NO_ACKNOWLEDGE: usize = 65;
 
     // An abort waits.
-    const ABORT: usize = 66;
+    pub const ABORT: usize = 66;
 
     // A rearbitration waits.
-    const REAR: usize = 67;
+    pub const REAR: usize = 67;
 
     // The stage of the service.
-    const STAGE: usize = 68;
+    pub const STAGE: usize = 68;
 
     // A reply is under way.
-    const GOING: usize = 69;
+    pub const GOING: usize = 69;
 
     // The state of the diagnosis.
-    const CONDITION: usize = 70;
+    pub const CONDITION: usize = 70;
 
     // Whose turn it is in major error.
-    const ALTERNATE: usize = 71;
+    pub const ALTERNATE: usize = 71;
 
     // Sc.
-    const SC: usize = 72;
+    pub const SC: usize = 72;
 
     // A slot of the period had a finding.
-    const FAILURE: usize = 73;
+    pub const FAILURE: usize = 73;
 
     // The frame under way.
-    const HEARD: usize = 74;
+    pub const HEARD: usize = 74;
 
     // The frame to be sent.
-    const OWN: usize = 108;
+    pub const OWN: usize = 108;
 
     // The reply.
-    const REPLY: usize = 142;
+    pub const REPLY: usize = 142;
 }
 
 // ---- numbers and frames
@@ -202,6 +208,7 @@ fn frame_at(s: &[u8; ROW], at: usize) -> [u8; line::CODED_BYTES]
 }
 
 // Its length too: a proof of a caller does not know it of an array in a struct.
+#[inline(always)]
 #[tactic(auto, using(std::proofs::lemmas::Bool::Decides::nat_tests, crate::proofs::Laws::frame_put))]
 fn put_frame(s: &mut [u8; ROW], at: usize, b: &[u8; line::CODED_BYTES])
     requires { at ≤ 142 }
@@ -303,7 +310,7 @@ fn report_of(s: &[u8; ROW]) -> Report
     }
 }
 
-fn line_of(s: &[u8; ROW]) -> Line
+pub fn line_of(s: &[u8; ROW]) -> Line
     ensures { result ≡ rule.line_by (rule.byte_at s.now) }
 {
     Line {
@@ -365,7 +372,7 @@ fn progress_of(s: &[u8; ROW]) -> Progress
     }
 }
 
-fn counters_of(s: &[u8; ROW]) -> Counters
+pub fn counters_of(s: &[u8; ROW]) -> Counters
     ensures { result ≡ rule.counters_by (rule.byte_at s.now) }
 {
     Counters {
@@ -420,7 +427,7 @@ fn period_of(s: &[u8; ROW]) -> Period
     }
 }
 
-fn diagnosis_of(s: &[u8; ROW]) -> Diagnosis
+pub fn diagnosis_of(s: &[u8; ROW]) -> Diagnosis
     ensures { result ≡ rule.diagnosis_by (rule.byte_at s.now) }
 {
     Diagnosis {
@@ -434,6 +441,7 @@ fn diagnosis_of(s: &[u8; ROW]) -> Diagnosis
 }
 
 // The state that a row says.
+#[inline(always)]
 #[tactic(auto, using(std::proofs::lemmas::Bool::Decides::nat_tests), unfolding(crate::specs::Row::core_of, crate::specs::Row::core_by))]
 pub fn core_of(s: &[u8; ROW]) -> Core
     ensures { result ≡ rule.core_of s.now }
@@ -447,6 +455,27 @@ pub fn core_of(s: &[u8; ROW]) -> Core
         reply: reply_of(s),
         diagnosis: diagnosis_of(s),
     }
+}
+
+// The slot of the frame to be sent that is driven next.
+pub fn next_of(s: &[u8; ROW]) -> u16
+    ensures { result ≡ rule.half_at (rule.byte_at s.now) 38 }
+{
+    half(s, At::NEXT)
+}
+
+// Slots of attempts.
+pub fn slots_of(s: &[u8; ROW]) -> u32
+    ensures { result ≡ rule.word_at (rule.byte_at s.now) 46 }
+{
+    word(s, At::SLOTS)
+}
+
+// Dominant slots in a row.
+pub fn dominant_of(s: &[u8; ROW]) -> u32
+    ensures { result ≡ rule.word_at (rule.byte_at s.now) 22 }
+{
+    word(s, At::DOMINANT)
 }
 
 // ---- the row of a state: each writes one part, and the others stay
@@ -487,7 +516,7 @@ fn put_line(s: &mut [u8; ROW], l: Line)
     s[At::COUNT] = l.count;
 }
 
-fn put_winner(s: &mut [u8; ROW], w: Winner)
+pub fn put_winner(s: &mut [u8; ROW], w: Winner)
     ensures { rule.core_of s.new ≡ setter.with_reception (rule.core_of s.old) (reception_rule.with_winner (rule.core_of s.old).reception w) }
 {
     s[At::MATCHED] = u8::from(w.matched);
@@ -497,14 +526,14 @@ fn put_winner(s: &mut [u8; ROW], w: Winner)
     s[At::LENGTH] = w.length;
 }
 
-fn put_place(s: &mut [u8; ROW], p: Place)
+pub fn put_place(s: &mut [u8; ROW], p: Place)
     ensures { rule.core_of s.new ≡ setter.with_reception (rule.core_of s.old) (reception_rule.with_place (rule.core_of s.old).reception p) }
 {
     s[At::PHASE] = p.phase as u8;
     s[At::SLOT] = p.at;
 }
 
-fn put_reception(s: &mut [u8; ROW], r: Reception)
+pub fn put_reception(s: &mut [u8; ROW], r: Reception)
     ensures { rule.core_of s.new ≡ setter.with_reception (rule.core_of s.old) r }
 {
     s[At::NIBBLES] = r.nibbles;
@@ -514,7 +543,7 @@ fn put_reception(s: &mut [u8; ROW], r: Reception)
     put_winner(s, r.winner);
 }
 
-fn put_progress(s: &mut [u8; ROW], p: Progress)
+pub fn put_progress(s: &mut [u8; ROW], p: Progress)
     ensures { rule.core_of s.new ≡ setter.with_service (rule.core_of s.old) (setter.with_effort (rule.core_of s.old).service (setter.with_progress (rule.core_of s.old).service.effort p)) }
 {
     s[At::STAGE] = p.stage as u8;
@@ -568,7 +597,7 @@ fn put_period(s: &mut [u8; ROW], p: Period)
     s[At::FAILURE] = u8::from(p.failure);
 }
 
-fn put_diagnosis(s: &mut [u8; ROW], x: Diagnosis)
+pub fn put_diagnosis(s: &mut [u8; ROW], x: Diagnosis)
     ensures { rule.core_of s.new ≡ setter.with_diagnosis (rule.core_of s.old) x }
 {
     s[At::CONDITION] = x.condition as u8;
@@ -579,7 +608,62 @@ fn put_diagnosis(s: &mut [u8; ROW], x: Diagnosis)
     put_period(s, x.period);
 }
 
+// ---- one number of it
+
+// The slot of the phase.
+pub fn put_slot(s: &mut [u8; ROW], at: u8)
+    ensures { rule.core_of s.new ≡ setter.with_reception (rule.core_of s.old) (reception_rule.with_place (rule.core_of s.old).reception (reception_rule.at_place (rule.core_of s.old).reception.place.phase at)) }
+{
+    s[At::SLOT] = at;
+}
+
+// The bits of the nibble under way.
+pub fn put_bits(s: &mut [u8; ROW], bits: u8)
+    ensures { rule.core_of s.new ≡ setter.with_reception (rule.core_of s.old) (reception_rule.with_bits (rule.core_of s.old).reception bits) }
+{
+    s[At::BITS] = bits;
+}
+
+// The whole nibbles taken.
+pub fn put_nibbles(s: &mut [u8; ROW], n: u8)
+    ensures { rule.core_of s.new ≡ setter.with_reception (rule.core_of s.old) (reception_rule.with_nibbles (rule.core_of s.old).reception n) }
+{
+    s[At::NIBBLES] = n;
+}
+
+// A byte of the frame under way.
+#[tactic(auto, using(std::proofs::lemmas::Bool::Decides::nat_tests, crate::proofs::Laws::heard_byte), unfolding(crate::specs::Row::core_of, crate::specs::Row::core_by))]
+pub fn put_heard(s: &mut [u8; ROW], i: usize, b: u8)
+    ensures { rule.core_of s.new ≡ setter.with_reception (rule.core_of s.old) (reception_rule.with_bytes (rule.core_of s.old).reception (set (rule.core_of s.old).reception.bytes (i % 34) b)) }
+{
+    s[At::HEARD + i % line::CODED_BYTES] = b;
+}
+
+// Recessive slots in a row.
+pub fn put_count(s: &mut [u8; ROW], n: u8)
+    ensures { rule.core_of s.new ≡ setter.with_line (rule.core_of s.old) (rule.with_count (rule.core_of s.old).line n) }
+{
+    s[At::COUNT] = n;
+}
+
+// Slots of attempts.
+pub fn put_slots(s: &mut [u8; ROW], n: u32)
+    ensures { rule.core_of s.new ≡ setter.with_service (rule.core_of s.old) (rule.with_spent (rule.core_of s.old).service n) }
+{
+    put_word(s, At::SLOTS, n);
+}
+
+// Sc, the last levels, and dominant slots in a row.
+pub fn put_watched(s: &mut [u8; ROW], sc: bool, levels: u8, dominant: u32)
+    ensures { rule.core_of s.new ≡ setter.with_diagnosis (rule.core_of s.old) (rule.with_watched (rule.core_of s.old).diagnosis sc levels dominant) }
+{
+    s[At::SC] = u8::from(sc);
+    s[At::LEVELS] = levels;
+    put_word(s, At::DOMINANT, dominant);
+}
+
 // The row says the state.
+#[inline(always)]
 pub fn put_core(s: &mut [u8; ROW], k: &Core)
     ensures { rule.core_of s.new ≡ k.now }
 {
@@ -590,4 +674,47 @@ pub fn put_core(s: &mut [u8; ROW], k: &Core)
     put_service(s, k.service);
     put_reply(s, k.reply);
     put_diagnosis(s, k.diagnosis);
+}
+
+// ---- number 6
+
+// The slots of the period, by the divider that 0x02 holds.
+#[tactic(auto, using(std::proofs::lemmas::Bool::Decides::nat_tests, registers::proofs::Dividers::one_slot))]
+fn period_in_range(m: &[u8; 256], s: &[u8; ROW]) -> bool
+    ensures { result ≡ leb (rule.word_at (rule.byte_at s.now) place.period) (control_rule.divider (get_or m.now register_rule.diagnosis_control 0) - 1) }
+{
+    word(s, At::PERIOD) <= Map::divider(m[Map::DIAGNOSIS_CONTROL]) - 1
+}
+
+// A row a line, in the order of `ranges`.
+#[tactic(auto, using(std::proofs::lemmas::Bool::Decides::nat_tests, ranges::proofs::Rows::joined, ranges::proofs::Rows::joined_within), unfolding(rules::specs::Definitions::State::in_range, rules::specs::Definitions::State::ranges, line::specs::Frame::size, crate::specs::Row::core_of, crate::specs::Row::core_by))]
+pub fn in_range(m: &[u8; 256], s: &[u8; ROW]) -> bool
+    ensures { result ≡ state_rule.in_range (answers.controller m.now (rule.core_of s.now)) }
+{
+    (s[At::SENDING] <= 15)
+        & (s[At::SENDING + 1] <= 13)
+        & (s[At::MESSAGE] <= 15)
+        & (s[At::MESSAGE + 1] <= 13)
+        & (s[At::ERROR] <= 32)
+        & (s[At::COUNT] <= 12)
+        & (s[At::SLOT] <= 9)
+        & (s[At::NIBBLES] <= line::MOST_NIBBLES)
+        & (s[At::BITS] <= 15)
+        & (s[At::WINNER_CHANNEL] <= 13)
+        & (s[At::POINTER] <= 127)
+        & (s[At::LENGTH] <= 31)
+        & (s[At::CHANNEL] <= 13)
+        & (s[At::OWN_DATA] <= line::LONGEST)
+        & (s[At::SETTING] <= 15)
+        & (half(s, At::NEXT) <= 60 + 10 * (line::LONGEST as u16) - 1)
+        & (word(s, At::ERRORS) <= 15)
+        & (s[At::REPLY_CHANNEL] <= 13)
+        & (half(s, At::REPLY_NEXT) <= 60 + 10 * (line::LONGEST as u16) - 1)
+        & (s[At::REPLY_DATA] <= line::LONGEST)
+        & (s[At::LEVELS] <= 7)
+        & (word(s, At::DOMINANT) <= 8)
+        & period_in_range(m, s)
+        & (word(s, At::RXD1) <= 4)
+        & (word(s, At::RXD2) <= 4)
+        & (word(s, At::CONNECTED) <= 4)
 }

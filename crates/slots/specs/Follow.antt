@@ -1,7 +1,8 @@
 -- A slot by its parts.
+--   slot_open == the answer of a slot, by all refusals but 6
 --   begins == what lets an idle, a choice or a start follow        own_dominant, turning == a transition of the model's own frame, where ETIP is set
 --   moved_slot, .. == a slot that is active or idle, but for the diagnosis        awake_slot == with it        receives, sends == the two common samples
-use Rattle.std.specs.Prelude.{ℕ, Bool, true, false, not, eqb}
+use Rattle.std.specs.Prelude.{ℕ, Bool, true, false, not, [], ◌∷◌, eqb, ltb}
 use Rattle.line.specs.Bits.{pick}
 use Rattle.diagnosis.specs.Control.{compares_transmission}
 use Rattle.rules.specs.Definitions.Longest.{capacity}
@@ -11,8 +12,8 @@ use Rattle.rules.specs.Definitions.Hearing.{hear_frame}
 use Rattle.rules.specs.Definitions.Attempt.{drives_frame, judge_slot}
 use Rattle.rules.specs.Definitions.Service.{own_frame}
 use Rattle.rules.specs.Definitions.State.{is_active}
-use Rattle.rules.specs.Definitions.Slots.{role_in, drives, sampled_slot, ended, diagnosed_slot, active_slot}
-use Rattle.rules.specs.Definitions.Run.{answered, rested_slot}
+use Rattle.rules.specs.Definitions.Slots.{role_in, drives, sampled_slot, ended, diagnosed_slot, active_slot, resting_slot}
+use Rattle.rules.specs.Definitions.Run.{unless_refused, answered, rested_slot}
 use Rattle.rules.specs.declared.Stage.{Stage}
 use Rattle.rules.specs.declared.Stage.TheVariants.{Resting, Waiting, Opening, Sending, Receiving}
 use Rattle.rules.specs.declared.Hearing.{Hearing}
@@ -22,6 +23,7 @@ use Rattle.rules.specs.declared.Verdict.TheVariants.{Unjudged, Goes, Lost, Faile
 use Rattle.rules.specs.declared.Core.{Core}
 use Rattle.rules.specs.declared.Controller.{Controller}
 use Rattle.rules.specs.declared.Answer.{Answer}
+use Rattle.rules.specs.declared.Refusal.TheVariants.{Levels}
 
 -- An idle that waits, no frame under way, or a start sequence that has just ended.
 unfoldable pub begins : Core → Bool
@@ -82,3 +84,11 @@ receives k v = both (is_resting k.service.effort.progress.stage) (both (not k.re
 -- the model's own frame goes on
 unfoldable pub sends : Core → ℕ → Bool
 sends k v = both (drives_frame k.service.effort.progress) (is_going (judge_slot k.service.effort.frame k.service.effort.progress.at v))
+
+-- ---- the slot behind number 6
+
+-- 5
+unfoldable pub slot_open : Controller → ℕ → Answer
+slot_open c levels =
+    unless_refused c ((ltb 7 levels, Levels) ∷ [])
+    (pick (is_active c.core.activity.mode) (answered (active_slot c levels)) (rested_slot (resting_slot c levels)))

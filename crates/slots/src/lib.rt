@@ -152,7 +152,7 @@ fn receives(k: &Core, v: u8) -> bool
         )
 }
 
-#[tactic(auto, using(std::proofs::lemmas::Bool::Decides::nat_tests, crate::proofs::Short::received_as), unfolding(attempt::specs::Following::following))]
+#[tactic(auto, using(std::proofs::lemmas::Bool::Decides::nat_tests, crate::proofs::Short::received_as))]
 #[inline(always)]
 fn receive(m: &[u8; 256], k: &mut Core, v: u8) -> u8
     requires waits { k.old.activity.waiting ≡ false }
@@ -258,11 +258,11 @@ fn awake_slot(m: &mut [u8; 256], k: &mut Core, levels: u16) -> u8
     registers::transmitted(m[Map::LINE_CONTROL], w.level)
 }
 
-// A slot of a state in its ranges: 5; idle and asleep give recessive.
-#[tactic(auto, using(std::proofs::lemmas::Bool::Decides::nat_tests, crate::proofs::Diagnosed::asleep_not_active), unfolding(rules::specs::Definitions::Answers::lent, rules::specs::Definitions::Answers::number, rules::specs::Definitions::Answers::refused_by, rules::specs::Definitions::Answers::value_of, rules::specs::Definitions::Run::slot, rules::specs::Definitions::Run::accept, rules::specs::Definitions::Run::refuse, rules::specs::Definitions::Run::unless_refused, rules::specs::Definitions::Run::rested_slot, rules::specs::Definitions::Slots::resting_slot, crate::specs::Follow::awake_slot))]
+// A slot behind number 6: 5; idle and asleep give recessive. Of a state in its ranges it is the slot.
+#[tactic(auto, using(std::proofs::lemmas::Bool::Decides::nat_tests, crate::proofs::Diagnosed::asleep_not_active), unfolding(rules::specs::Definitions::Answers::lent, rules::specs::Definitions::Answers::number, rules::specs::Definitions::Answers::refused_by, rules::specs::Definitions::Answers::value_of, rules::specs::Definitions::Run::slot, rules::specs::Definitions::Run::accept, rules::specs::Definitions::Run::refuse, rules::specs::Definitions::Run::unless_refused, rules::specs::Definitions::Run::rested_slot, rules::specs::Definitions::Slots::resting_slot, crate::specs::Follow::awake_slot, crate::specs::Follow::slot_open))]
 pub fn slot_in_range(m: &mut [u8; 256], k: &mut Core, levels: u16) -> Result<u8, Refusal>
-    requires range { state_rule.in_range (answers.controller m.old k.old) ≡ true }
-    ensures { answers.lent result (answers.controller m.new k.new) ≡ run.slot (answers.controller m.old k.old) levels }
+    ensures total { answers.lent result (answers.controller m.new k.new) ≡ follow.slot_open (answers.controller m.old k.old) levels }
+    ensures ruled { state_rule.in_range (answers.controller m.old k.old) ≡ true → answers.lent result (answers.controller m.new k.new) ≡ run.slot (answers.controller m.old k.old) levels }
 {
     if 7 < levels {
         return Err(Refusal::Levels);

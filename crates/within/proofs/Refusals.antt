@@ -4,11 +4,12 @@ use mathlib.Core.Bool.{Bool, true, false}
 use mathlib.Core.List.{List, [], ◌∷◌}
 use mathlib.Core.Path.{◌≡◌, refl, ap, ◌∙◌}
 use native.Mathlib.Omega.{arith}
+use lib.Dec.{ltb}
 use Rattle.std.specs.Prelude.{Ok, Err}
 use Rattle.line.specs.Bits.{pick}
-use Rattle.rules.specs.Definitions.State.{is_active}
+use Rattle.rules.specs.Definitions.State.{in_range, is_active}
 use Rattle.rules.specs.Definitions.Run.{refuse, accept, answered, rested_slot, unless_refused, pin_reset, host_write, host_read, slot, step}
-use Rattle.rules.specs.Definitions.Answers.{number, refused_by, lent, controller}
+use Rattle.rules.specs.Definitions.Answers.{number, refused_by, value_of, lent, controller}
 use Rattle.rules.specs.declared.Refusal.{Refusal}
 use Rattle.rules.specs.declared.Refusal.TheVariants.{Address, Value, Unwritable, Unreadable, Levels, Range, Asleep, FixedBits}
 use Rattle.rules.specs.declared.Event.{Event}
@@ -16,6 +17,7 @@ use Rattle.rules.specs.declared.Event.TheVariants.{Reset, Write, Read, Slot}
 use Rattle.rules.specs.declared.Core.{Core}
 use Rattle.rules.specs.declared.Controller.{Controller}
 use Rattle.rules.specs.declared.Answer.{Answer}
+use Rattle.ordinary.specs.Ways.{open_slot}
 use Rattle.within.specs.Lent.{Unchanged}
 
 positive : (w : Refusal) → number w ≡ 0 → ⊥
@@ -74,3 +76,17 @@ unchanged FixedBits m s n h = (h, refl)
 pub not_refused : (value : ℕ) (m s n t : List ℕ) → Unchanged (refused_by (Ok value)) m s n t
 unfolding refused_by Unchanged
 not_refused value m s n t = tt
+
+-- ---- a slot
+
+pub open_step : (c : Controller) (levels : ℕ) → in_range c ≡ true → ltb 7 levels ≡ false → open_slot c levels ≡ step c (Slot levels)
+unfolding step slot unless_refused open_slot
+open_step c levels r l = rw (r, l)
+
+pub levels_refused : (c : Controller) (levels : ℕ) → in_range c ≡ true → ltb 7 levels ≡ true → lent (Err Levels) c ≡ step c (Slot levels)
+unfolding step slot unless_refused refuse lent refused_by value_of number
+levels_refused c levels r l = rw (r, l)
+
+pub range_refused : (c : Controller) (levels : ℕ) → in_range c ≡ false → lent (Err Range) c ≡ step c (Slot levels)
+unfolding step slot unless_refused refuse lent refused_by value_of number
+range_refused c levels r = rw r
