@@ -93,7 +93,7 @@ fn play_events<W: Write>(out: &mut W, events: Events<'_>, count: u16) -> io::Res
     writeln!(out, "end {count}")
 }
 
-// Room for the line of an event: the longest has 28 bytes.
+// Room for the line of an event: the longest has 26 bytes.
 const LINE: usize = 32;
 
 // An event, with its line, which is written at once. A mark has no effect.

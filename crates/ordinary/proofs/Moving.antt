@@ -14,7 +14,7 @@ use Rattle.rules.specs.Definitions.Longest.{capacity}
 use Rattle.rules.specs.Definitions.Registers.{both, transmit_control, autonomous}
 use Rattle.rules.specs.Definitions.Reception.{under_way, is_under_way, in_body, is_body, behind, start_ended, command_ended, counted, free, takes_start}
 use Rattle.rules.specs.Definitions.Hearing.{line_after, reception_after, hear_frame, hear_quiet, ends_well, receiver_level}
-use Rattle.rules.specs.Definitions.Attempt.{drives_frame, is_driving, waits, is_waiting, in_service, is_serving, between_attempts, is_between, at_stage, advance, sent_slots, level_at}
+use Rattle.rules.specs.Definitions.Attempt.{drives_frame, is_driving, waits, is_waiting, in_service, is_serving, at_stage, advance, sent_slots, level_at}
 use Rattle.rules.specs.Definitions.Service.{role_of, own_frame, choose, choice_of, resting, started, opened, hear_own}
 use Rattle.rules.specs.Definitions.State.{is_active, is_asleep, serving}
 use Rattle.rules.specs.Definitions.Slots.{role_in, verdict_as, verdict, reply_verdict, heard_as, heard, service_judged, reception_judged, reply_after, chooses, choice_made, start_made, follows_on, drives, drives_as, sampled_slot, ended, resting_slot}

@@ -17,7 +17,6 @@ use Rattle.rules.specs.declared.Role.TheVariants.{Nobody, Receiver}
 use Rattle.rules.specs.declared.Hearing.{Hearing}
 use Rattle.rules.specs.declared.Verdict.{Verdict}
 use Rattle.rules.specs.declared.Verdict.TheVariants.{Unjudged}
-use Rattle.rules.specs.declared.Service.{Service}
 use Rattle.rules.specs.declared.Reception.{Reception}
 use Rattle.rules.specs.declared.Core.{Core}
 use Rattle.rules.proofs.Logic.{both_false}

@@ -22,7 +22,7 @@ use Rattle.rules.specs.declared.Core.{Core}
 use Rattle.rules.proofs.Logic.{both_false}
 use Rattle.row.specs.Row.{mode_of, stage_of, core_of}
 use Rattle.ordinary.proofs.Samples.{no_idle}
-use Rattle.within.specs.Lent.{Plain, KeptAlone}
+use Rattle.within.specs.Lent.{KeptAlone}
 
 no_register : (a n : ℕ) → 16 ≤ a → n < 16 → eqb a n ≡ false
 no_register a n h l = ne_eqb a n (λ q. absurd (omega (arith, h, l, q)))

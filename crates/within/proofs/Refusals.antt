@@ -5,7 +5,7 @@ use mathlib.Core.List.{List, [], ◌∷◌}
 use mathlib.Core.Path.{◌≡◌, refl, ap, ◌∙◌}
 use native.Mathlib.Omega.{arith}
 use lib.Dec.{ltb}
-use Rattle.std.specs.Prelude.{Ok, Err}
+use Rattle.std.specs.Prelude.{Result, Ok, Err}
 use Rattle.line.specs.Bits.{pick}
 use Rattle.rules.specs.Definitions.State.{in_range, is_active}
 use Rattle.rules.specs.Definitions.Run.{refuse, accept, answered, rested_slot, unless_refused, pin_reset, host_write, host_read, slot, step}
@@ -76,6 +76,11 @@ unchanged FixedBits m s n h = (h, refl)
 pub not_refused : (value : ℕ) (m s n t : List ℕ) → Unchanged (refused_by (Ok value)) m s n t
 unfolding refused_by Unchanged
 not_refused value m s n t = tt
+
+-- a call that writes neither map nor row
+pub unwritten : (r : Result ℕ Refusal) (m s : List ℕ) → Unchanged (refused_by r) m s m s
+unwritten (Ok value) m s = not_refused value m s m s
+unwritten (Err why) m s = unchanged why m s m refl
 
 -- ---- a slot
 

@@ -129,6 +129,7 @@ pub fn host_write(
 // ---- any event, host read, interrupt
 
 // An event over the row: a refused one leaves map and row as they were.
+#[tactic(auto, using(crate::proofs::Refusals::unwritten))]
 pub fn call(m: &mut [u8; 256], s: &mut [u8; row::ROW], e: Event) -> Result<u8, Refusal>
     ensures answer { answers.lent result (answers.controller m.new (row_rule.core_of s.new)) ≡ run.step (answers.controller m.old (row_rule.core_of s.old)) e }
     ensures kept { rule.Unchanged (answers.refused_by result) m.old s.old m.new s.new }
@@ -137,7 +138,7 @@ pub fn call(m: &mut [u8; 256], s: &mut [u8; row::ROW], e: Event) -> Result<u8, R
         Event::Write(address, value) => host_write(m, s, address, value),
         Event::Slot(levels) => slot(m, s, levels),
         Event::Reset => pin_reset(m, s),
-        Event::Read(_) => other(m, s, e),
+        Event::Read(address) => host_read(m, s, address),
     }
 }
 
