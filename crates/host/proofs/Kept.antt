@@ -32,7 +32,7 @@ no_idle : (k : Core) → k.activity.waiting ≡ false → idle_due k ≡ k
 unfolding idle_due
 no_idle k e = rw e
 
-no_register : (a n : ℕ) → 16 ≤ a → n < 16 → eqb a n ≡ false
+pub no_register : (a n : ℕ) → 16 ≤ a → n < 16 → eqb a n ≡ false
 no_register a n h l = ne_eqb a n (λ q. absurd (omega (arith, h, l, q)))
 
 not_write_only : (a : ℕ) → 16 ≤ a → write_only a ≡ false

@@ -171,8 +171,8 @@ reply_after_is Asker m k q r = refl
 reply_after_is Replier m k q r = refl
 
 -- where the next slot of the reply has its number
-pub moved_is : (q : Verdict) (y : ImmediateReply) → following q y.at < 65536 → judged.reply_moved q y ≡ replied q y
-unfolding judged.reply_moved replied reply_moved following
+pub moved_is : (q : Verdict) (y : ImmediateReply) → following q y.at < 65536 → judged.reply_advanced q y ≡ replied q y
+unfolding judged.reply_advanced replied reply_moved following
 moved_is Unjudged y h = refl
 moved_is Goes y h = rw (next_is y.at h)
 moved_is Lost y h = refl

@@ -58,20 +58,20 @@ reply_after Asker m y q r = y
 reply_after Replier m y q r = replied q y
 
 -- the reply goes on, or it has ended
-unfoldable pub reply_moved : Verdict → ImmediateReply → ImmediateReply
-reply_moved Unjudged y = y
-reply_moved Goes y = record { going = y.going; channel = y.channel; at = next_place y.at; frame = y.frame }
-reply_moved Lost y = no_reply
-reply_moved (Failed code) y = no_reply
-reply_moved Done y = no_reply
-reply_moved Answered y = no_reply
+unfoldable pub reply_advanced : Verdict → ImmediateReply → ImmediateReply
+reply_advanced Unjudged y = y
+reply_advanced Goes y = record { going = y.going; channel = y.channel; at = next_place y.at; frame = y.frame }
+reply_advanced Lost y = no_reply
+reply_advanced (Failed code) y = no_reply
+reply_advanced Done y = no_reply
+reply_advanced Answered y = no_reply
 
 unfoldable pub reply_left : Role → List ℕ → ImmediateReply → Verdict → Reception → ImmediateReply
 reply_left Nobody m y q r = y
 reply_left Receiver m y q r = pick (reads_asked r) (reply_taken m capacity r) y
 reply_left Sender m y q r = y
 reply_left Asker m y q r = y
-reply_left Replier m y q r = reply_moved q y
+reply_left Replier m y q r = reply_advanced q y
 
 -- q is what the sample is for the reply
 unfoldable pub effected : Core → Verdict → Verdict → Hearing → Core

@@ -209,9 +209,9 @@ fn reply_taken(m: &[u8; 256], r: &Reception) -> ImmediateReply
 }
 
 // The reply goes on, or it has ended.
-#[tactic(auto, using(std::proofs::lemmas::Bool::Decides::nat_tests), unfolding(crate::specs::Judged::reply_moved, attempt::specs::Following::next_place))]
+#[tactic(auto, using(std::proofs::lemmas::Bool::Decides::nat_tests), unfolding(crate::specs::Judged::reply_advanced, attempt::specs::Following::next_place))]
 fn move_reply(y: &mut ImmediateReply, q: Verdict)
-    ensures { y.new ≡ judged.reply_moved q y.old }
+    ensures { y.new ≡ judged.reply_advanced q y.old }
 {
     match q {
         Verdict::Unjudged => {}

@@ -42,8 +42,9 @@ use Rattle.slots.specs.Follow.{own_dominant, turning, moved_slot, moved_level, m
 use Rattle.ordinary.specs.declared.Way.TheVariants as way
 use Rattle.ordinary.specs.Ways.{frame_goes, Listens, Carries, Receives, Counting, Sends, Judged, Moves, Awake, Stepped, open_slot}
 use Rattle.row.specs.Row.{core_of}
+use Rattle.slots.proofs.Short.{plainly}
 use Rattle.ordinary.proofs.Frames as carried
-use Rattle.ordinary.proofs.Samples.{plainly, role_listens, heard_is, listened, carried_alone, no_idle, unstarted}
+use Rattle.ordinary.proofs.Samples.{role_listens, heard_is, listened, carried_alone, no_idle, unstarted}
 
 -- ---- a listener does not turn its own frame, and ends none where its frame goes on
 

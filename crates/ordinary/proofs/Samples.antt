@@ -1,4 +1,4 @@
--- An ordinary sample: neither map nor registers change, and what the slot leaves of line, frame and service.
+-- An ordinary sample: what the slot leaves of line, frame and service.
 use Prim.Native.Nat.{ℕ}
 use mathlib.Core.Bool.{Bool, true, false, not}
 use mathlib.Core.List.{List}
@@ -10,45 +10,18 @@ use Rattle.rules.specs.Definitions.Hearing.{line_after}
 use Rattle.rules.specs.Definitions.Attempt.{waits, advance}
 use Rattle.rules.specs.Definitions.Service.{role_of, started}
 use Rattle.rules.specs.Definitions.State.{idle_due, is_active, serving}
-use Rattle.rules.specs.Definitions.Slots.{role_in, verdict_as, verdict, reply_verdict, heard_as, heard, service_judged, core_judged, reception_judged, reply_after, chooses, choice_made, start_made, follows_on, judged_slot, sampled_slot}
+use Rattle.rules.specs.Definitions.Slots.{role_in, verdict_as, verdict, reply_verdict, heard_as, heard, service_judged, reception_judged, reply_after, chooses, choice_made, start_made, follows_on, sampled_slot}
 use Rattle.rules.specs.Definitions.Answers.{controller}
 use Rattle.rules.specs.declared.Role.{Role}
 use Rattle.rules.specs.declared.Role.TheVariants.{Nobody, Receiver}
 use Rattle.rules.specs.declared.Hearing.{Hearing}
-use Rattle.rules.specs.declared.Verdict.{Verdict}
 use Rattle.rules.specs.declared.Verdict.TheVariants.{Unjudged}
-use Rattle.rules.specs.declared.Reception.{Reception}
 use Rattle.rules.specs.declared.Core.{Core}
 use Rattle.rules.proofs.Logic.{both_false}
 use Rattle.line.proofs.Laws.{pick_same}
 use Rattle.judging.specs.Ordinary.{passes, goes, stays}
-use Rattle.judging.proofs.Ways as ways
+use Rattle.slots.proofs.Short.{plainly}
 use Rattle.ordinary.specs.Ways.{Listens}
-
--- ---- neither map nor registers change
-
-module _ (m : List ℕ) (k : Core) (v : ℕ) where
-  abbrev w : Verdict
-  w = verdict k v
-
-  abbrev q : Verdict
-  q = reply_verdict (role_in k) k v
-
-  abbrev h : Hearing
-  h = heard k w v
-
-  abbrev frame : Reception
-  frame = reception_judged m h k.reception v
-
-  -- line, frame, service and reply once the sample is judged
-  abbrev pub judged_core : Core
-  judged_core =
-      with_reply (with_service (with_reception (with_line k (line_after h k.line v)) frame) (service_judged w k.service)) (reply_after (role_in k) m k q frame)
-
-  pub plainly : passes h ≡ true → stays w k.service ≡ true → sampled_slot (controller m k) v ≡ controller m (follows_on m judged_core)
-  unfolding sampled_slot judged_slot core_judged
-  plainly p o =
-      rw (← (ways.memory_kept k w q h (ways.reply_marked k v) p o m), ← (ways.report_kept k w q h (ways.reply_marked k v) p o), ← (ways.service_kept k w q h (ways.reply_marked k v) p o))
 
 -- ---- the model listens
 

@@ -54,10 +54,12 @@ module _ (m : List ℕ) (k : Core) (v : ℕ) where
   abbrev frame : Reception
   frame = reception_judged m h k.reception v
 
-  plainly : passes h ≡ true → stays w k.service ≡ true → sampled_slot (controller m k) v
-      ≡ controller m
-      (follows_on m
-      (with_reply (with_service (with_reception (with_line k (line_after h k.line v)) frame) (service_judged w k.service)) (reply_after (role_in k) m k q frame)))
+  -- line, frame, service and reply once the sample is judged
+  abbrev pub judged_core : Core
+  judged_core =
+      with_reply (with_service (with_reception (with_line k (line_after h k.line v)) frame) (service_judged w k.service)) (reply_after (role_in k) m k q frame)
+
+  pub plainly : passes h ≡ true → stays w k.service ≡ true → sampled_slot (controller m k) v ≡ controller m (follows_on m judged_core)
   unfolding sampled_slot judged_slot core_judged
   plainly p s =
       rw (← (ways.memory_kept k w q h (ways.reply_marked k v) p s m), ← (ways.report_kept k w q h (ways.reply_marked k v) p s), ← (ways.service_kept k w q h (ways.reply_marked k v) p s))
